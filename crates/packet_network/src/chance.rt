@@ -1,4 +1,7 @@
 // What is drawn of a packet on its way to the switch.
+ghost use Rattle.std.specs.Prelude.{◌≡◌, ◌≤◌, false};
+ghost use Rattle.packet_network.specs.Chances.{drawn};
+
 use experiment::{Draws, Network, PacketName};
 
 /// Whether a packet is lost, whether it comes twice, and how much longer it takes to the switch.
@@ -13,7 +16,12 @@ pub(crate) struct Chance {
 const NANO: u64 = 1000;
 
 /// What is drawn of the packet of this name, in the run of this seed: by its name alone.
-pub(crate) fn chance_of(seed: u64, name: PacketName, network: &Network) -> Chance {
+pub(crate) fn chance_of(seed: u64, name: PacketName, network: &Network) -> Chance
+    ensures drawn { result ≡ drawn seed name network.now.loss network.now.repeat network.now.jitter }
+    ensures none_lost { network.now.loss ≡ 0 → result.is_lost ≡ false }
+    ensures none_repeated { network.now.repeat ≡ 0 → result.is_repeated ≡ false }
+    ensures late { result.late ≤ network.now.jitter }
+{
     let mut draws = Draws::named(seed, name);
     let is_lost = draws.is_in(network.loss);
     let is_repeated = draws.is_in(network.repeat);

@@ -32,7 +32,7 @@ pub(crate) struct Place {
 
 /// What is due.
 #[derive(Clone, Copy, Debug, PartialEq, Eq)]
-pub(crate) enum Event {
+pub(crate) enum NetworkEvent {
     Task(Task),
     /// The last bit of a packet left the card of this host.
     CardFree(Place),

@@ -9,10 +9,12 @@
 mod chance;
 mod event;
 mod fates;
+mod flow;
 mod measure;
 mod network;
 mod outlet;
 mod packet;
+mod paths;
 mod stop;
 #[cfg(test)]
 mod tests;
@@ -21,5 +23,5 @@ pub use event::{Begun, Reached, Task};
 pub use fates::Fates;
 pub use measure::{Down, Level, Waits};
 pub use network::PacketNetwork;
-pub use packet::{Piece, SimPacket, Traffic};
+pub use packet::{PacketCause, Piece, PieceGrant, SimPacket};
 pub use stop::NetworkStop;

@@ -1,4 +1,7 @@
 // A queue with the link that takes from it.
+ghost use Rattle.std.specs.Prelude.{◌≡◌, ◌≤◌, ◌<◌, ◌+◌, ◌*◌, ◌-◌, ◌^◌, length, nat_le, min, true, false, Ok, None, Some, IfOk, IfSome, OnErr};
+ghost use Rattle.network_parts.specs.Queues.{total};
+
 use crate::measure::{Level, Waits};
 use crate::packet::SimPacket;
 use experiment::{Card, Network};
@@ -18,6 +21,9 @@ pub(crate) struct Ranked {
     packet: SimPacket,
 }
 
+// No packet begins at a later moment.
+const MOST: u64 = 1 << 62;
+
 /// The queue of a card or an output, the link behind it, and what was measured there since counting began anew.
 #[derive(Drop)]
 pub(crate) struct Outlet {
@@ -33,16 +39,26 @@ pub(crate) struct Outlet {
     weighted: u128,
     // For how long the link was taken when counting began anew.
     taken: u64,
+    ghost eight: { length port.queues ≡ 8 },
+    ghost byte_most: { link.byte ≤ 8000000 },
+    ghost delay_most: { link.delay ≤ 1000000000000 },
 }
 
 impl Outlet {
+    ghost use Rattle.experiment.specs.declared.network.Card.TheVariants.{Levels};
+    ghost use Rattle.packet_network.specs.Outlets.{waiting_at};
+
     /// Nothing waits.
     pub(crate) fn open(
         alloc: Global,
         network: &Network,
         order: Card,
         room: u64,
-    ) -> Result<Outlet, AllocError> {
+    ) -> Result<Outlet, AllocError>
+        ensures empty { IfOk result (λ o. waiting_at o ≡ 0) }
+        ensures room { IfOk result (λ o. o.port.room ≡ room) }
+        ensures order { IfOk result (λ o. o.order ≡ order) }
+    {
         Ok(Outlet {
             order,
             port: Port::open(alloc, room)?,
@@ -59,7 +75,10 @@ impl Outlet {
     }
 
     // The level of a packet here.
-    fn level_of(&self, packet: &SimPacket) -> usize {
+    fn level_of(&self, packet: &SimPacket) -> usize
+        ensures inside { result < 8 }
+        ensures levels { self.now.order ≡ Levels → result ≡ min packet.now.level 7 }
+    {
         match self.order {
             Card::Levels => (packet.level as usize).min(LEVELS - 1),
             Card::Fifo | Card::Srpt => LEVELS - 1,
@@ -67,17 +86,29 @@ impl Outlet {
     }
 
     /// How many bytes wait.
-    pub(crate) fn bytes(&self) -> u64 {
+    pub(crate) fn bytes(&self) -> u64
+        ensures { result ≡ self.now.total.waiting }
+    {
         self.total.waiting
     }
 
     /// Whether its link is free.
-    pub(crate) fn is_free(&self, now: u64) -> bool {
+    pub(crate) fn is_free(&self, now: u64) -> bool
+        ensures { result ≡ nat_le self.now.link.free now }
+    {
         self.link.is_free(now)
     }
 
     // A packet is queued, or not where there is no room.
-    fn queue(&mut self, level: usize, packet: SimPacket) -> Result<bool, AllocError> {
+    #[tactic(auto, using(crate::proofs::StandingLaws::one_enters))]
+    fn queue(&mut self, level: usize, packet: SimPacket) -> Result<bool, AllocError>
+        requires { level < 8 }
+        ensures fits { result ≡ Ok true → waiting_at self.new ≡ waiting_at self.old + 1 }
+        ensures full { result ≡ Ok false → self.old.port.room < total self.old.port.queues + packet.bytes }
+        ensures refused { result ≡ Ok false → waiting_at self.new ≡ waiting_at self.old }
+        ensures err { OnErr result (waiting_at self.new ≡ waiting_at self.old) }
+        ensures room { self.new.port.room ≡ self.old.port.room }
+    {
         match self.order {
             Card::Fifo | Card::Levels => {
                 let bytes = packet.bytes;
@@ -95,7 +126,13 @@ impl Outlet {
     }
 
     /// A packet comes; false where there is no room.
-    pub(crate) fn enter(&mut self, now: u64, packet: SimPacket) -> Result<bool, AllocError> {
+    pub(crate) fn enter(&mut self, now: u64, packet: SimPacket) -> Result<bool, AllocError>
+        ensures fits { result ≡ Ok true → waiting_at self.new ≡ waiting_at self.old + 1 }
+        ensures full { result ≡ Ok false → self.old.port.room < total self.old.port.queues + packet.bytes }
+        ensures refused { result ≡ Ok false → waiting_at self.new ≡ waiting_at self.old }
+        ensures err { OnErr result (waiting_at self.new ≡ waiting_at self.old) }
+        ensures room { self.new.port.room ≡ self.old.port.room }
+    {
         let level = self.level_of(&packet);
         let bytes = u64::from(packet.bytes);
         let mut packet = packet;
@@ -109,16 +146,28 @@ impl Outlet {
     }
 
     // The packet that goes next.
-    fn next(&mut self) -> Option<SimPacket> {
+    #[tactic(auto, using(crate::proofs::StandingLaws::one_leaves))]
+    fn next(&mut self) -> Option<SimPacket>
+        ensures some { IfSome result (λ _. waiting_at self.new + 1 ≡ waiting_at self.old) }
+        ensures none { result ≡ None → waiting_at self.new ≡ waiting_at self.old }
+        ensures link { self.new.link ≡ self.old.link }
+    {
         match self.order {
             Card::Fifo | Card::Levels => self.port.next().map(|(_level, waiting)| waiting.packet),
             Card::Srpt => self.ranked.pop().map(|Reverse(ranked)| ranked.packet),
         }
     }
 
-    /// The next packet begins, if its link is free.
-    pub(crate) fn begin(&mut self, now: u64) -> Option<(SimPacket, Passage)> {
-        if !self.link.is_free(now) {
+    /// The next packet begins, if its link is free and its moment isn't too late.
+    pub(crate) fn begin(&mut self, now: u64) -> Option<(SimPacket, Passage)>
+        ensures some { IfSome result (λ _. waiting_at self.new + 1 ≡ waiting_at self.old) }
+        ensures none { result ≡ None → waiting_at self.new ≡ waiting_at self.old }
+        ensures free { IfSome result (λ _. self.old.link.free ≤ now) }
+        ensures left { IfSome result (λ r. r.1.left ≡ now + self.old.link.byte * r.0.bytes) }
+        ensures there { IfSome result (λ r. r.1.there < 2 ^ 63) }
+        ensures taken { IfSome result (λ r. self.new.link.free ≡ r.1.left) }
+    {
+        if now >= MOST || !self.link.is_free(now) {
             return None;
         }
         let packet = self.next()?;
@@ -127,7 +176,11 @@ impl Outlet {
     }
 
     // A packet begins.
-    fn counts(&mut self, now: u64, packet: &SimPacket) {
+    fn counts(&mut self, now: u64, packet: &SimPacket)
+        ensures port { self.new.port ≡ self.old.port }
+        ensures ranked { self.new.ranked ≡ self.old.ranked }
+        ensures link { self.new.link ≡ self.old.link }
+    {
         let level = self.level_of(packet);
         let bytes = u64::from(packet.bytes);
         self.total.fall(now, bytes);
@@ -141,14 +194,19 @@ impl Outlet {
     }
 
     // For how long the link was taken up to a moment.
-    fn taken_to(&self, now: u64) -> u64 {
+    fn taken_to(&self, now: u64) -> u64
+        ensures value { result ≡ self.now.link.taken - (self.now.link.free - now) }
+        ensures within { result ≤ now }
+    {
         self.link
             .taken()
             .saturating_sub(self.link.free().saturating_sub(now))
     }
 
     /// For how long the link was taken up to a moment, since counting began anew.
-    pub(crate) fn taken(&self, now: u64) -> u64 {
+    pub(crate) fn taken(&self, now: u64) -> u64
+        ensures { result ≤ now }
+    {
         self.taken_to(now).saturating_sub(self.taken)
     }
 
@@ -174,7 +232,11 @@ impl Outlet {
     }
 
     /// Counting begins anew.
-    pub(crate) fn restart(&mut self, now: u64) {
+    pub(crate) fn restart(&mut self, now: u64)
+        ensures port { self.new.port ≡ self.old.port }
+        ensures ranked { self.new.ranked ≡ self.old.ranked }
+        ensures link { self.new.link ≡ self.old.link }
+    {
         self.total.restart(now);
         for gauge in self.levels.iter_mut() {
             gauge.restart(now);

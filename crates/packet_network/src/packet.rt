@@ -1,12 +1,13 @@
 // A packet under way.
-ghost use Rattle.std.specs.Prelude.{◌<◌};
+ghost use Rattle.std.specs.Prelude.{◌≡◌, ◌≤◌, ◌<◌, ◌+◌, ◌-◌, ◌↔◌, IsTrue, false};
 
+use crate::event::{Begun, Place};
 use experiment::PacketName;
 use homa_plain::HostId;
 
 /// Why a packet is sent.
 #[derive(Clone, Copy, Debug, PartialEq, Eq)]
-pub enum Traffic {
+pub enum PacketCause {
     /// Bytes of a message for the first time.
     First,
     /// Bytes of a message that were sent before.
@@ -26,6 +27,14 @@ pub struct Piece {
     pub is_response: bool,
 }
 
+/// Up to which byte of which message a packet grants: the call by its place in the list of calls.
+#[derive(Clone, Copy, Debug, PartialEq, Eq)]
+pub struct PieceGrant {
+    pub call: u32,
+    pub upto: u32,
+    pub is_response: bool,
+}
+
 /// A packet under way.
 #[derive(Clone, Copy, Debug, PartialEq, Eq)]
 pub struct SimPacket {
@@ -41,17 +50,49 @@ pub struct SimPacket {
     pub left: u32,
     pub name: PacketName,
     pub piece: Option<Piece>,
+    pub grant: Option<PieceGrant>,
     pub from: HostId,
     pub to: HostId,
     pub level: u8,
-    pub traffic: Traffic,
+    pub cause: PacketCause,
     ghost sender: { from.0 < 32 },
     ghost receiver: { to.0 < 32 },
 }
 
 impl Piece {
     /// Whether it has the last byte of a request.
-    pub(crate) fn ends_request(&self) -> bool {
+    pub(crate) fn ends_request(&self) -> bool
+        ensures { IsTrue result ↔ ((self.now.is_response ≡ false) × (self.now.length ≤ self.now.offset + self.now.len)) }
+    {
         !self.is_response && u64::from(self.offset) + u64::from(self.len) >= u64::from(self.length)
+    }
+}
+
+impl SimPacket {
+    /// Its sender's card.
+    pub(crate) fn sender(&self) -> Place
+        ensures { result.host ≡ self.now.from.0 }
+    {
+        Place { host: self.from.0 }
+    }
+
+    /// Its receiver's output.
+    pub(crate) fn receiver(&self) -> Place
+        ensures { result.host ≡ self.now.to.0 }
+    {
+        Place { host: self.to.0 }
+    }
+
+    /// It began to leave a queue.
+    pub(crate) fn begun(&self, place: Place, now: u64) -> Begun
+        ensures host { result.host.0 ≡ place.host }
+        ensures piece { result.piece ≡ self.now.piece }
+        ensures wait { result.wait ≡ now - self.now.came }
+    {
+        Begun {
+            host: HostId(place.host),
+            piece: self.piece,
+            wait: now.saturating_sub(self.came),
+        }
     }
 }

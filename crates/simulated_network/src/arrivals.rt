@@ -1,4 +1,6 @@
 // Who calls whom, when, and with how many bytes, as it is drawn.
+ghost use Rattle.std.specs.Prelude.{◌≡◌, ◌≤◌, ◌<◌, ◌+◌, ◌-◌, ◌*◌, ◌^◌, min, nat_lt};
+
 use experiment::{ARRIVALS, Draws, Experiment, LENGTHS, gap_of};
 use homa_plain::HostId;
 
@@ -8,18 +10,31 @@ use homa_plain::HostId;
 pub(crate) struct Arrivals {
     moments: Draws,
     lengths: Draws,
-    /// The mean span between two times at which calls are made.
+    // The mean span between two times at which calls are made.
     gap: u64,
-    /// Who makes the next call, and how many calls are made at this moment.
+    // Who makes the calls of this moment, and how many are still to be made.
     client: HostId,
     left: u32,
-    /// How many calls were drawn so far.
+    // How many calls were drawn so far.
     drawn: u32,
+    ghost gap_most: { gap ≤ 2 ^ 56 },
+}
+
+/// A call that was drawn, or is listed.
+#[derive(Clone, Copy, Debug, PartialEq, Eq)]
+pub(crate) struct DrawnCall {
+    pub(crate) client: HostId,
+    pub(crate) server: HostId,
+    pub(crate) bytes: u32,
+    ghost most: { bytes ≤ 1000000 },
 }
 
 impl Arrivals {
     /// No call was drawn yet.
-    pub(crate) fn new(experiment: &Experiment, seed: u64) -> Arrivals {
+    pub(crate) fn new(experiment: &Experiment, seed: u64) -> Arrivals
+        ensures drawn { result.drawn ≡ 0 }
+        ensures left { result.left ≡ 0 }
+    {
         Arrivals {
             moments: Draws::new(seed, ARRIVALS),
             lengths: Draws::new(seed, LENGTHS),
@@ -31,34 +46,48 @@ impl Arrivals {
     }
 
     /// How many calls were drawn so far.
-    pub(crate) fn drawn(&self) -> u32 {
+    pub(crate) fn drawn(&self) -> u32
+        ensures { result ≡ self.now.drawn }
+    {
         self.drawn
     }
 
     /// Whether calls are to be made at this moment.
-    pub(crate) fn is_due(&self) -> bool {
-        self.left > 0
+    pub(crate) fn is_due(&self) -> bool
+        ensures { result ≡ nat_lt 0 self.now.left }
+    {
+        0 < self.left
     }
 
     /// How long it takes until calls are made again.
-    pub(crate) fn next_gap(&mut self) -> u64 {
+    pub(crate) fn next_gap(&mut self) -> u64
+        ensures most { result ≤ 23 * 2 ^ 56 }
+        ensures drawn { self.new.drawn ≡ self.old.drawn }
+    {
         self.moments.exponential(self.gap)
     }
 
     /// A client makes its calls now, or all clients of an incast do.
-    pub(crate) fn begin(&mut self, experiment: &Experiment, client: HostId) {
+    pub(crate) fn begin(&mut self, experiment: &Experiment, client: HostId)
+        ensures drawn { self.new.drawn ≡ self.old.drawn }
+    {
         let load = &experiment.load;
         self.client = client;
         self.left = load.burst * load.incast.max(1);
     }
 
     /// One call more was drawn, or was listed.
-    pub(crate) fn count(&mut self) {
+    pub(crate) fn count(&mut self)
+        ensures { self.new.drawn ≡ min (self.old.drawn + 1) (2 ^ 32 - 1) }
+    {
         self.drawn = self.drawn.saturating_add(1);
     }
 
     // The server of a call of a client: the hot one, or another host, of which each is as likely as any other.
-    fn server(&mut self, experiment: &Experiment, client: HostId) -> HostId {
+    fn server(&mut self, experiment: &Experiment, client: HostId) -> HostId
+        ensures host { result.0 < experiment.now.settings.hosts }
+        ensures drawn { self.new.drawn ≡ self.old.drawn }
+    {
         let hosts = experiment.settings.hosts;
         let part = self.moments.below(1000);
         let distance = 1 + self.moments.below(hosts - 1);
@@ -68,15 +97,26 @@ impl Arrivals {
         }
     }
 
-    /// The next call that is made at this moment: its client, its server, and the length of its request.
-    pub(crate) fn call(&mut self, experiment: &Experiment) -> (HostId, HostId, u32) {
+    /// The next call that is made at this moment.
+    pub(crate) fn call(&mut self, experiment: &Experiment) -> DrawnCall
+        ensures drawn { self.new.drawn ≡ self.old.drawn }
+    {
         let incast = experiment.load.incast;
         let bytes = experiment.workload.draw(&mut self.lengths);
         self.left = self.left.saturating_sub(1);
         if incast > 0 {
-            return (HostId((1 + self.left % incast) as u16), HostId(0), bytes);
+            return DrawnCall {
+                client: HostId((1 + self.left % incast) as u16),
+                server: HostId(0),
+                bytes,
+            };
         }
         let client = self.client;
-        (client, self.server(experiment, client), bytes)
+        let server = self.server(experiment, client);
+        DrawnCall {
+            client,
+            server,
+            bytes,
+        }
     }
 }

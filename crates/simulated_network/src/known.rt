@@ -1,10 +1,14 @@
 // What is known of calls and their messages.
-use crate::mark::Mark;
+ghost use Rattle.std.specs.Prelude.{◌≡◌, ◌++◌, ◌∷◌, [], Some, IfOk, OnOk, slice_get};
+ghost use Rattle.simulated_network.specs.Runs.{made_of, all_made};
+
+use crate::mark::PacketMark;
 use crate::outcome::is_measured;
+use crate::receivers::{begins, closes, completes};
 use call_figures::{CallEnd, SimCall, SimCalls, Transfer, Transfers};
 use experiment::Experiment;
 use homa_plain::{Body, CallId, HostId, Role};
-use packet_network::{Begun, PacketNetwork, Piece, SimPacket};
+use packet_network::{Begun, PacketNetwork, Piece, PieceGrant, SimPacket};
 use std::alloc::{AllocError, Global};
 
 /// All calls that were made with their messages, and how many of those that are measured are open.
@@ -18,12 +22,27 @@ pub(crate) struct KnownCalls<'a> {
     strange: u32,
 }
 
+// The grant that a packet of the call at a place is, if it is one. A client grants its response, and a server its request.
+fn grant_of(place: u32, role: Role, body: &Body) -> Option<PieceGrant> {
+    match *body {
+        Body::Grant { offset, .. } => Some(PieceGrant {
+            call: place,
+            upto: offset,
+            is_response: role == Role::Client,
+        }),
+        _ => None,
+    }
+}
+
 impl<'a> KnownCalls<'a> {
     /// No call was made.
     pub(crate) fn new(
         alloc: Global,
         experiment: &'a Experiment,
-    ) -> Result<KnownCalls<'a>, AllocError> {
+    ) -> Result<KnownCalls<'a>, AllocError>
+        ensures calls { IfOk result (λ known. known.calls ≡ []) }
+        ensures transfers { IfOk result (λ known. known.transfers ≡ []) }
+    {
         Ok(KnownCalls {
             experiment,
             calls: SimCalls::new(alloc, experiment.settings.hosts)?,
@@ -34,12 +53,16 @@ impl<'a> KnownCalls<'a> {
     }
 
     /// How many calls that are measured are open.
-    pub(crate) fn open(&self) -> u64 {
+    pub(crate) fn open(&self) -> u64
+        ensures { result ≡ self.now.open }
+    {
         self.open
     }
 
     /// A call is made.
-    pub(crate) fn make(&mut self, call: SimCall) -> Result<(), AllocError> {
+    pub(crate) fn make(&mut self, call: SimCall) -> Result<(), AllocError>
+        ensures made { OnOk result (self.new.calls ≡ self.old.calls ++ call ∷ []) }
+    {
         self.calls.make(call.id, call)?;
         if is_measured(&self.experiment.load, call.drawn) {
             self.open = self.open.saturating_add(1);
@@ -50,13 +73,10 @@ impl<'a> KnownCalls<'a> {
     }
 
     // A message leaves its receiver. If it isn't over there, it may come anew.
-    fn leaves(
-        &mut self,
-        packets: &mut PacketNetwork,
-        place: u32,
-        is_response: bool,
-        is_over: bool,
-    ) {
+    fn leaves(&mut self, packets: &mut PacketNetwork, place: u32, is_response: bool, is_over: bool)
+        ensures made { all_made self.new.calls ≡ all_made self.old.calls }
+        ensures packets { packets.new ≡ packets.old }
+    {
         let Some(call) = self.calls.at(place) else {
             return;
         };
@@ -65,10 +85,12 @@ impl<'a> KnownCalls<'a> {
         };
         if message.came && !message.over {
             let receiver = call.sender(!is_response);
-            packets.completes(receiver, call.sender(is_response));
-            if message.is_short() {
-                packets.closes(receiver);
-            }
+            completes(
+                packets,
+                receiver,
+                call.sender(is_response),
+                message.is_short(),
+            );
         }
         let message = Transfer {
             came: false,
@@ -80,7 +102,10 @@ impl<'a> KnownCalls<'a> {
     }
 
     /// A service ran, and answers so many bytes.
-    pub(crate) fn runs(&mut self, packets: &mut PacketNetwork, id: CallId, bytes: u32) {
+    pub(crate) fn runs(&mut self, packets: &mut PacketNetwork, id: CallId, bytes: u32)
+        ensures made { all_made self.new.calls ≡ all_made self.old.calls }
+        ensures packets { packets.new ≡ packets.old }
+    {
         let Some(place) = self.calls.place(id) else {
             return;
         };
@@ -88,7 +113,7 @@ impl<'a> KnownCalls<'a> {
         let now = packets.now();
         if let Some(call) = self.calls.at(place) {
             let ran = call.ran.or(Some(now));
-            self.calls.set(place, SimCall { ran, ..call });
+            self.change(place, SimCall { ran, ..call });
         }
         if let Some(message) = self.transfers.message(place, true) {
             let begun = Transfer {
@@ -103,7 +128,9 @@ impl<'a> KnownCalls<'a> {
     }
 
     // The call at a place ends, if it is open.
-    fn end_at(&mut self, now: u64, place: u32, end: CallEnd) {
+    fn end_at(&mut self, now: u64, place: u32, end: CallEnd)
+        ensures made { all_made self.new.calls ≡ all_made self.old.calls }
+    {
         let Some(call) = self.calls.at(place) else {
             return;
         };
@@ -114,11 +141,14 @@ impl<'a> KnownCalls<'a> {
             self.open = self.open.saturating_sub(1);
         }
         let ended = now;
-        self.calls.set(place, SimCall { ended, end, ..call });
+        self.change(place, SimCall { ended, end, ..call });
     }
 
     /// A call ends at its client.
-    pub(crate) fn ends(&mut self, packets: &mut PacketNetwork, id: CallId, end: CallEnd) {
+    pub(crate) fn ends(&mut self, packets: &mut PacketNetwork, id: CallId, end: CallEnd)
+        ensures made { all_made self.new.calls ≡ all_made self.old.calls }
+        ensures packets { packets.new ≡ packets.old }
+    {
         if let Some(place) = self.calls.place(id) {
             self.leaves(packets, place, true, true);
             self.end_at(packets.now(), place, end);
@@ -126,14 +156,20 @@ impl<'a> KnownCalls<'a> {
     }
 
     /// A server gives up a request.
-    pub(crate) fn drops(&mut self, packets: &mut PacketNetwork, id: CallId) {
+    pub(crate) fn drops(&mut self, packets: &mut PacketNetwork, id: CallId)
+        ensures made { all_made self.new.calls ≡ all_made self.old.calls }
+        ensures packets { packets.new ≡ packets.old }
+    {
         if let Some(place) = self.calls.place(id) {
             self.leaves(packets, place, false, true);
         }
     }
 
     /// A host refuses a message, of which it knows nothing then.
-    pub(crate) fn refuses(&mut self, packets: &mut PacketNetwork, host: HostId, id: CallId) {
+    pub(crate) fn refuses(&mut self, packets: &mut PacketNetwork, host: HostId, id: CallId)
+        ensures made { all_made self.new.calls ≡ all_made self.old.calls }
+        ensures packets { packets.new ≡ packets.old }
+    {
         if let Some(place) = self.calls.place(id) {
             let is_response = host == id.client;
             self.leaves(packets, place, is_response, false);
@@ -141,7 +177,10 @@ impl<'a> KnownCalls<'a> {
     }
 
     // A host that restarts loses what it knows of the call at a place.
-    fn loses(&mut self, packets: &mut PacketNetwork, host: HostId, place: u32) {
+    fn loses(&mut self, packets: &mut PacketNetwork, host: HostId, place: u32)
+        ensures made { all_made self.new.calls ≡ all_made self.old.calls }
+        ensures packets { packets.new ≡ packets.old }
+    {
         let Some(call) = self.calls.at(place) else {
             return;
         };
@@ -160,7 +199,10 @@ impl<'a> KnownCalls<'a> {
         packets: &mut PacketNetwork,
         host: HostId,
         inc: u32,
-    ) -> Result<(), AllocError> {
+    ) -> Result<(), AllocError>
+        ensures made { all_made self.new.calls ≡ all_made self.old.calls }
+        ensures packets { packets.new ≡ packets.old }
+    {
         let count = u32::try_from(self.calls.count()).unwrap_or(u32::MAX);
         for place in 0..count {
             self.loses(packets, host, place);
@@ -169,7 +211,9 @@ impl<'a> KnownCalls<'a> {
     }
 
     // What a piece says.
-    fn piece(&mut self, now: u64, drawn: u32, piece: Piece) -> Mark {
+    fn piece(&mut self, now: u64, drawn: u32, piece: Piece) -> PacketMark
+        ensures made { all_made self.new.calls ≡ all_made self.old.calls }
+    {
         let mut times = None;
         if let Some(message) = self.transfers.message(piece.call, piece.is_response) {
             let mut message = message;
@@ -178,43 +222,52 @@ impl<'a> KnownCalls<'a> {
             }
             self.transfers.set(piece.call, piece.is_response, message);
         }
-        Mark::piece(drawn, times, piece)
+        PacketMark::piece(drawn, times, piece)
     }
 
     // A receiver grants a message up to a byte.
-    fn grants(
-        &mut self,
-        packets: &mut PacketNetwork,
-        receiver: HostId,
-        place: u32,
-        is_response: bool,
-        upto: u32,
-    ) {
-        let Some(message) = self.transfers.message(place, is_response) else {
+    fn grants(&mut self, packets: &mut PacketNetwork, receiver: HostId, grant: &PieceGrant)
+        ensures made { all_made self.new.calls ≡ all_made self.old.calls }
+        ensures packets { packets.new ≡ packets.old }
+    {
+        let Some(message) = self.transfers.message(grant.call, grant.is_response) else {
             return;
         };
         let mut granted = message;
-        granted.grants(upto);
-        self.transfers.set(place, is_response, granted);
+        granted.grants(grant.upto);
+        self.transfers.set(grant.call, grant.is_response, granted);
         if message.came && !message.over && message.is_short() && !granted.is_short() {
-            packets.closes(receiver);
+            closes(packets, receiver);
         }
     }
 
-    // A call's packet without a piece is counted: how many the call has, itself left out.
-    fn count(&mut self, place: u32, call: SimCall, is_resend: bool) {
+    // The call at a place is now this, which was made as it was.
+    fn change(&mut self, place: u32, call: SimCall)
+        requires { (c : SimCall) → slice_get self.old.calls place ≡ Some c → made_of call ≡ made_of c }
+        ensures { all_made self.new.calls ≡ all_made self.old.calls }
+    {
+        self.calls.set(place, call);
+    }
+
+    // A call's packet without a piece is counted.
+    fn count(&mut self, place: u32, call: SimCall, is_resend: bool)
+        requires { slice_get self.old.calls place ≡ Some call }
+        ensures { all_made self.new.calls ≡ all_made self.old.calls }
+    {
         let counted = SimCall {
             controls: call.controls.saturating_add(1),
             resends: call.resends.saturating_add(u32::from(is_resend)),
             ..call
         };
-        self.calls.set(place, counted);
+        self.change(place, counted);
     }
 
     // The mark of a packet of a call that isn't known.
-    fn strange(&mut self) -> Mark {
+    fn strange(&mut self) -> PacketMark
+        ensures made { all_made self.new.calls ≡ all_made self.old.calls }
+    {
         self.strange = self.strange.saturating_add(1);
-        Mark::control(u32::MAX, self.strange)
+        PacketMark::control(u32::MAX, self.strange, None)
     }
 
     /// What a packet says that a host sends; its payload has so many bytes.
@@ -226,7 +279,10 @@ impl<'a> KnownCalls<'a> {
         role: Role,
         body: &Body,
         len: u32,
-    ) -> Mark {
+    ) -> PacketMark
+        ensures made { all_made self.new.calls ≡ all_made self.old.calls }
+        ensures packets { packets.new ≡ packets.old }
+    {
         let Some(place) = self.calls.place(id) else {
             return self.strange();
         };
@@ -243,15 +299,19 @@ impl<'a> KnownCalls<'a> {
             };
             return self.piece(packets.now(), call.drawn, piece);
         }
-        if let Body::Grant { offset, .. } = *body {
-            self.grants(packets, from, place, role == Role::Client, offset);
+        let grant = grant_of(place, role, body);
+        if let Some(grant) = grant {
+            self.grants(packets, from, &grant);
         }
         self.count(place, call, matches!(body, Body::Resend { .. }));
-        Mark::control(call.drawn, call.controls)
+        PacketMark::control(call.drawn, call.controls, grant)
     }
 
     // A piece comes to its receiver, which may be the first of its message.
-    fn comes(&mut self, packets: &mut PacketNetwork, from: HostId, to: HostId, piece: &Piece) {
+    fn comes(&mut self, packets: &mut PacketNetwork, from: HostId, to: HostId, piece: &Piece)
+        ensures made { all_made self.new.calls ≡ all_made self.old.calls }
+        ensures packets { packets.new ≡ packets.old }
+    {
         let Some(message) = self.transfers.message(piece.call, piece.is_response) else {
             return;
         };
@@ -265,21 +325,37 @@ impl<'a> KnownCalls<'a> {
             ..message
         };
         self.transfers.set(piece.call, piece.is_response, known);
-        packets.begins(to, from);
-        if known.is_short() {
-            packets.opens(to);
-        }
+        begins(packets, to, from, known.is_short());
     }
 
     /// A packet is at its host.
-    pub(crate) fn arrives(&mut self, packets: &mut PacketNetwork, packet: &SimPacket) {
+    pub(crate) fn arrives(&mut self, packets: &mut PacketNetwork, packet: &SimPacket)
+        ensures made { all_made self.new.calls ≡ all_made self.old.calls }
+        ensures packets { packets.new ≡ packets.old }
+    {
         if let Some(piece) = packet.piece {
             self.comes(packets, packet.from, packet.to, &piece);
+        }
+        if let Some(grant) = packet.grant {
+            self.clears(packets.now(), &grant);
+        }
+    }
+
+    // A grant comes to its message's sender.
+    fn clears(&mut self, now: u64, grant: &PieceGrant)
+        ensures made { all_made self.new.calls ≡ all_made self.old.calls }
+    {
+        if let Some(message) = self.transfers.message(grant.call, grant.is_response) {
+            let mut message = message;
+            message.clears(now, grant.upto);
+            self.transfers.set(grant.call, grant.is_response, message);
         }
     }
 
     /// A packet leaves its sender's network card.
-    pub(crate) fn leaves_card(&mut self, now: u64, begun: &Begun) {
+    pub(crate) fn leaves_card(&mut self, now: u64, begun: &Begun)
+        ensures made { all_made self.new.calls ≡ all_made self.old.calls }
+    {
         let Some(piece) = begun.piece else {
             return;
         };
@@ -293,12 +369,14 @@ impl<'a> KnownCalls<'a> {
         }
         if let Some(call) = self.calls.at(piece.call) {
             let first = call.first.or(Some(now));
-            self.calls.set(piece.call, SimCall { first, ..call });
+            self.change(piece.call, SimCall { first, ..call });
         }
     }
 
     /// A packet leaves an output of the switch.
-    pub(crate) fn leaves_output(&mut self, begun: &Begun) {
+    pub(crate) fn leaves_output(&mut self, begun: &Begun)
+        ensures made { all_made self.new.calls ≡ all_made self.old.calls }
+    {
         let Some(piece) = begun.piece else {
             return;
         };

@@ -5,12 +5,15 @@
 #![tactic(auto)]
 
 mod arrivals;
+mod heeding;
 mod known;
 mod link_use;
 mod mark;
 mod network;
 mod outcome;
+mod receivers;
 mod step;
+mod tasks;
 #[cfg(test)]
 mod tests;
 mod trouble;
@@ -18,8 +21,8 @@ mod window;
 
 pub use link_use::LinkUse;
 pub use network::SimulatedNetwork;
-pub use outcome::Outcome;
+pub use outcome::RunOutcome;
 pub use packet_network::{Fates, Level, NetworkStop, Waits};
-pub use step::Step;
+pub use step::{RunStep, SentDatagram};
 pub use trouble::Trouble;
 pub use window::Window;

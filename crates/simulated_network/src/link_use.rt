@@ -1,4 +1,6 @@
 // How links to hosts were used.
+ghost use Rattle.std.specs.Prelude.{◌≡◌, ◌≤◌, ◌<◌, ◌+◌, ◌-◌, ◌^◌};
+
 use run_gauges::Spans;
 
 /// How links to hosts were used, all together: all of their time, for how long they were taken, and for how long they were idle, by
@@ -13,11 +15,16 @@ pub struct LinkUse {
     pub unsent: u128,
     pub empty: u128,
     pub wasted: u128,
+    ghost all_time: { taken + (withheld + (coming + (unsent + empty))) ≡ time },
+    ghost within_wasted: { withheld ≤ wasted },
+    ghost within_idle: { wasted ≤ withheld + (coming + (unsent + empty)) },
 }
 
 impl LinkUse {
     /// No time.
-    pub fn new() -> LinkUse {
+    pub fn new() -> LinkUse
+        ensures { result.time ≡ 0 }
+    {
         LinkUse {
             time: 0,
             taken: 0,
@@ -30,12 +37,26 @@ impl LinkUse {
     }
 
     /// The time in which they were idle.
-    pub fn idle(&self) -> u128 {
-        self.withheld + self.coming + self.unsent + self.empty
+    pub fn idle(&self) -> u128
+        ensures idle { result ≡ self.now.withheld + (self.now.coming + (self.now.unsent + self.now.empty)) }
+        ensures all_time { self.now.taken + result ≡ self.now.time }
+        ensures wasted { self.now.wasted ≤ result }
+        ensures withheld { self.now.withheld ≤ self.now.wasted }
+    {
+        self.withheld + (self.coming + (self.unsent + self.empty))
     }
 
     /// One link more, which was used so.
-    pub(crate) fn add(&mut self, spans: &Spans) {
+    pub(crate) fn add(&mut self, spans: &Spans)
+        requires { self.old.time < 2 ^ 100 }
+        ensures time { self.new.time ≡ self.old.time + (spans.now.since - spans.now.from) }
+        ensures taken { self.new.taken ≡ self.old.taken + spans.now.taken }
+        ensures withheld { self.new.withheld ≡ self.old.withheld + spans.now.withheld }
+        ensures coming { self.new.coming ≡ self.old.coming + spans.now.coming }
+        ensures unsent { self.new.unsent ≡ self.old.unsent + spans.now.unsent }
+        ensures empty { self.new.empty ≡ self.old.empty + spans.now.empty }
+        ensures wasted { self.new.wasted ≡ self.old.wasted + spans.now.wasted }
+    {
         *self = LinkUse {
             time: self.time + u128::from(spans.since - spans.from),
             taken: self.taken + u128::from(spans.taken),

@@ -1,13 +1,16 @@
 // What a packet says of its call.
-use experiment::PacketName;
-use packet_network::{Piece, Traffic};
+ghost use Rattle.std.specs.Prelude.{◌≡◌, None, Some};
 
-/// What a packet says of its call: the bytes of a message, how they are counted, by which name it is drawn for, and how many bytes of
-/// its message are left.
+use experiment::PacketName;
+use packet_network::{PacketCause, Piece, PieceGrant};
+
+/// What a packet says of its call: which bytes of a message it has or which grant, how it is counted, by which name it is drawn for,
+/// and how many bytes of its message are left.
 #[derive(Clone, Copy, Debug, PartialEq, Eq)]
-pub(crate) struct Mark {
+pub(crate) struct PacketMark {
     pub(crate) piece: Option<Piece>,
-    pub(crate) traffic: Traffic,
+    pub(crate) grant: Option<PieceGrant>,
+    pub(crate) cause: PacketCause,
     pub(crate) name: PacketName,
     pub(crate) left: u32,
 }
@@ -17,12 +20,16 @@ const AGAIN: u32 = 2;
 
 const CONTROL: u32 = 4;
 
-impl Mark {
+impl PacketMark {
     /// That of a packet without a piece, of a call by the order in which calls were drawn.
-    pub(crate) fn control(drawn: u32, times: u32) -> Mark {
-        Mark {
+    pub(crate) fn control(drawn: u32, times: u32, grant: Option<PieceGrant>) -> PacketMark
+        ensures piece { result.piece ≡ None }
+        ensures grant { result.grant ≡ grant }
+    {
+        PacketMark {
             piece: None,
-            traffic: Traffic::Control,
+            grant,
+            cause: PacketCause::Control,
             name: PacketName {
                 call: drawn,
                 kind: CONTROL,
@@ -34,15 +41,19 @@ impl Mark {
     }
 
     /// That of a piece. Where it was sent before, so many packets of its message were.
-    pub(crate) fn piece(drawn: u32, times: Option<u32>, piece: Piece) -> Mark {
+    pub(crate) fn piece(drawn: u32, times: Option<u32>, piece: Piece) -> PacketMark
+        ensures piece { result.piece ≡ Some piece }
+        ensures grant { result.grant ≡ None }
+    {
         let side = u32::from(piece.is_response);
-        let (traffic, kind) = match times {
-            None => (Traffic::First, side),
-            Some(_) => (Traffic::Again, AGAIN + side),
+        let (cause, kind) = match times {
+            None => (PacketCause::First, side),
+            Some(_) => (PacketCause::Again, AGAIN + side),
         };
-        Mark {
+        PacketMark {
             piece: Some(piece),
-            traffic,
+            grant: None,
+            cause,
             name: PacketName {
                 call: drawn,
                 kind,

@@ -1,4 +1,7 @@
 // What came of a run.
+ghost use Rattle.std.specs.Prelude.{◌≡◌, ◌+◌};
+ghost use Rattle.simulated_network.specs.Measured.{is_measured, before, measured};
+
 use crate::trouble::Trouble;
 use crate::window::Window;
 use call_figures::{SimCall, SimCalls, Transfers};
@@ -7,7 +10,7 @@ use packet_network::Fates;
 
 /// What came of a run. Moments are picoseconds.
 #[derive(Drop)]
-pub struct Outcome {
+pub struct RunOutcome {
     /// All calls that were made, and their messages.
     pub calls: SimCalls,
     pub transfers: Transfers,
@@ -22,24 +25,34 @@ pub struct Outcome {
     pub ended: u64,
 }
 
-// Whether the call is measured.
-pub(crate) fn is_measured(load: &Load, drawn: u32) -> bool {
-    load.warm <= drawn && drawn - load.warm < load.calls
+/// Whether the call with this number of those that were drawn is measured.
+pub(crate) fn is_measured(load: &Load, drawn: u32) -> bool
+    ensures { result ≡ is_measured load.now drawn }
+{
+    load.warm <= drawn && drawn < load.warm + load.calls
 }
 
-impl Outcome {
-    /// The calls that are measured.
-    pub fn measured(&self, load: &Load) -> &[SimCall] {
-        let all = self.calls.all();
-        let (mut from, mut to) = (0, 0);
-        for (place, call) in all.iter().enumerate() {
-            if call.drawn < load.warm {
-                from = place + 1;
-            }
-            if is_measured(load, call.drawn) {
-                to = place + 1;
-            }
+// How many calls from the first on have a lower number of those that were drawn.
+fn before(calls: &[SimCall], number: u32) -> usize
+    ensures { result ≡ before number calls.now }
+{
+    let mut count = 0;
+    for call in calls {
+        if number <= call.drawn {
+            return count;
         }
-        if from <= to { &all[from..to] } else { &[] }
+        count += 1;
+    }
+    count
+}
+
+impl RunOutcome {
+    /// The calls that are measured.
+    pub fn measured(&self, load: &Load) -> &[SimCall]
+        ensures { result.now ≡ measured load.now self.now.calls }
+    {
+        let all = self.calls.all();
+        let rest = &all[before(all, load.warm)..];
+        &rest[..before(rest, load.warm + load.calls)]
     }
 }

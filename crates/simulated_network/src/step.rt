@@ -3,7 +3,7 @@ use homa_plain::{Event, HostId};
 
 /// What happens next in a run.
 #[derive(Clone, Copy, Debug, PartialEq, Eq)]
-pub enum Step {
+pub enum RunStep {
     /// The run is over: the calls that are measured have ended, or too many more were drawn, or nothing is due.
     Over,
     /// Time went on in the network alone.
@@ -19,4 +19,11 @@ pub enum Step {
         server: HostId,
         bytes: u32,
     },
+}
+
+/// A datagram that is sent: how many bytes it has, and at which tick it is sent.
+#[derive(Clone, Copy, Debug, PartialEq, Eq)]
+pub struct SentDatagram {
+    pub len: u32,
+    pub tick: u64,
 }

@@ -1,4 +1,6 @@
 // What shouldn't happen.
+ghost use Rattle.std.specs.Prelude.{◌≡◌};
+ghost use Rattle.simulated_network.specs.Troubles.{no_trouble};
 
 /// What shouldn't happen, and how often it did.
 #[derive(Clone, Copy, Debug, PartialEq, Eq)]
@@ -14,10 +16,15 @@ pub struct Trouble {
 }
 
 impl Trouble {
-    pub(crate) const NONE: Trouble = Trouble {
-        left_out: 0,
-        dropped: 0,
-        refused: 0,
-        held: 0,
-    };
+    /// Nothing did.
+    pub(crate) fn new() -> Trouble
+        ensures { result ≡ no_trouble }
+    {
+        Trouble {
+            left_out: 0,
+            dropped: 0,
+            refused: 0,
+            held: 0,
+        }
+    }
 }

@@ -1,4 +1,6 @@
 // What is measured between two moments.
+ghost use Rattle.std.specs.Prelude.{◌≡◌, ◌≤◌, ◌*◌, ◌^◌, true, false};
+
 use crate::link_use::LinkUse;
 use homa_plain::HostId;
 use packet_network::{Level, PacketNetwork, Waits};
@@ -56,7 +58,9 @@ fn levels_of(packets: &PacketNetwork) -> [Level; 8] {
 }
 
 // All of the links to hosts, and the one that was taken for the longest time.
-fn links_of(packets: &PacketNetwork, hosts: u32) -> (LinkUse, (HostId, u64)) {
+fn links_of(packets: &PacketNetwork, hosts: u32) -> (LinkUse, (HostId, u64))
+    requires { hosts ≤ 32 }
+{
     let mut links = LinkUse::new();
     let mut hottest = (HostId(0), 0);
     for host in 0..hosts {
@@ -71,7 +75,10 @@ fn links_of(packets: &PacketNetwork, hosts: u32) -> (LinkUse, (HostId, u64)) {
 }
 
 // For how long links to the switch were taken.
-fn up_of(packets: &PacketNetwork, hosts: u32) -> u128 {
+fn up_of(packets: &PacketNetwork, hosts: u32) -> u128
+    requires { hosts ≤ 32 }
+    ensures { result ≤ hosts * 2 ^ 64 }
+{
     let mut up = 0;
     for host in 0..hosts {
         up += u128::from(packets.card_taken(HostId(host as u16)));
@@ -81,7 +88,10 @@ fn up_of(packets: &PacketNetwork, hosts: u32) -> u128 {
 
 impl Window {
     /// Nothing is measured yet.
-    pub(crate) fn new() -> Window {
+    pub(crate) fn new() -> Window
+        ensures is_open { result.is_open ≡ false }
+        ensures is_closed { result.is_closed ≡ false }
+    {
         Window {
             from: 0,
             to: 0,
@@ -103,7 +113,10 @@ impl Window {
     }
 
     /// Measuring begins.
-    pub(crate) fn open(&mut self, now: u64) {
+    pub(crate) fn open(&mut self, now: u64)
+        ensures from { self.new.from ≡ now }
+        ensures is_open { self.new.is_open ≡ true }
+    {
         self.from = now;
         self.is_open = true;
     }
@@ -124,7 +137,13 @@ impl Window {
     }
 
     /// Measuring ends.
-    pub(crate) fn close(&mut self, packets: &PacketNetwork, hosts: u32) {
+    pub(crate) fn close(&mut self, packets: &PacketNetwork, hosts: u32)
+        requires { hosts ≤ 32 }
+        ensures to { self.old.is_open ≡ true → self.new.to ≡ packets.now.moment }
+        ensures is_closed { self.old.is_open ≡ true → self.new.is_closed ≡ true }
+        ensures from { self.new.from ≡ self.old.from }
+        ensures offered { self.new.offered ≡ self.old.offered }
+    {
         if !self.is_open {
             return;
         }

@@ -1,0 +1,19 @@
+-- A network by what it holds.
+use Rattle.std.specs.Prelude.{ℕ, ◌+◌}
+use Rattle.packet_network.specs.declared.network.PacketNetwork.TheInside.{Inside}
+use Rattle.packet_network.specs.Standing.{in_agenda}
+use Rattle.packet_network.specs.Outlets.{waiting_at_all}
+use Rattle.packet_network.specs.States.{NetworkState}
+
+-- how many packets are under way, by where they stand
+abbrev pub standing : Inside → ℕ
+standing n = in_agenda n.paths.flow.agenda.dues + (waiting_at_all n.paths.cards.items + waiting_at_all n.paths.outputs.items)
+
+abbrev pub state_of : Inside → NetworkState
+state_of n = record {
+  moment = n.paths.flow.agenda.moment;
+  fates = n.paths.flow.census.fates;
+  under_way = standing n;
+  loss = n.paths.network.loss;
+  repeat = n.paths.network.repeat;
+}

@@ -1,0 +1,193 @@
+// Where packets are, and how they go on.
+ghost use Rattle.std.specs.Prelude.{◌≡◌, ◌≤◌, ◌<◌, ◌+◌, ◌^◌, length, IfOk, OnOk};
+ghost use Rattle.packet_network.specs.Standing.{in_agenda};
+ghost use Rattle.packet_network.specs.Outlets.{waiting_at_all};
+ghost use Rattle.packet_network.specs.Censuses.{IsStill, no_fates};
+ghost use Rattle.packet_network.specs.States.{arrived, arriving};
+
+use crate::event::{Begun, NetworkEvent, Place, Reached};
+use crate::fates::Census;
+use crate::flow::Flow;
+use crate::measure::Down;
+use crate::outlet::Outlet;
+use crate::packet::SimPacket;
+use crate::stop::NetworkStop;
+use experiment::{Card, Experiment, Network};
+use network_parts::Agenda;
+use run_gauges::{Receiver, SENDERS};
+use std::alloc::{AllocError, Global};
+
+/// What is due, the queues and links of each host, and what was sent to hosts. Each packet that is under way has something due, or
+/// waits at a card or an output.
+#[derive(Drop)]
+pub(crate) struct PacketPaths {
+    pub(crate) flow: Flow,
+    pub(crate) cards: Vec<Outlet>,
+    pub(crate) outputs: Vec<Outlet>,
+    pub(crate) down: Down,
+    pub(crate) network: Network,
+    pub(crate) seed: u64,
+    ghost all_cards: { length cards.items ≡ 32 },
+    ghost all_outputs: { length outputs.items ≡ 32 },
+    ghost counted: { flow.census.under_way ≡ in_agenda flow.agenda.dues + (waiting_at_all cards.items + waiting_at_all outputs.items) },
+}
+
+// The queues of so many hosts, in this order, and with this room.
+fn outlets(
+    alloc: Global,
+    network: &Network,
+    order: Card,
+    room: u64,
+) -> Result<Vec<Outlet>, AllocError>
+    ensures all { IfOk result (λ os. length os.items ≡ 32) }
+    ensures empty { IfOk result (λ os. waiting_at_all os.items ≡ 0) }
+{
+    let mut outlets = Vec::with_capacity(alloc, SENDERS)?;
+    for _ in 0..SENDERS {
+        outlets.push(Outlet::open(alloc, network, order, room)?)?;
+    }
+    Ok(outlets)
+}
+
+// As many receivers, which grant to so many senders at a time.
+fn receivers(alloc: Global, overcommit: u32) -> Result<Vec<Receiver>, AllocError>
+    ensures { IfOk result (λ rs. length rs.items ≡ 32) }
+{
+    let mut receivers = Vec::with_capacity(alloc, SENDERS)?;
+    for _ in 0..SENDERS {
+        receivers.push(Receiver::new(overcommit))?;
+    }
+    Ok(receivers)
+}
+
+impl PacketPaths {
+    ghost use Rattle.packet_network.specs.Paths.{IsAsGiven, IsLossless};
+
+    /// Nothing is due, and nothing under way.
+    pub(crate) fn open(
+        alloc: Global,
+        experiment: &Experiment,
+        seed: u64,
+    ) -> Result<PacketPaths, AllocError>
+        ensures moment { IfOk result (λ f. f.flow.agenda.moment ≡ 0) }
+        ensures fates { IfOk result (λ f. f.flow.census.fates ≡ no_fates) }
+        ensures under_way { IfOk result (λ f. f.flow.census.under_way ≡ 0) }
+        ensures loss { IfOk result (λ f. f.network.loss ≡ experiment.now.network.loss) }
+        ensures repeat { IfOk result (λ f. f.network.repeat ≡ experiment.now.network.repeat) }
+    {
+        let network = experiment.network;
+        let flow = Flow {
+            agenda: Agenda::new(alloc),
+            receivers: receivers(alloc, experiment.settings.overcommit)?,
+            census: Census::new(),
+        };
+        Ok(PacketPaths {
+            flow,
+            cards: outlets(alloc, &network, network.card, u64::MAX)?,
+            outputs: outlets(alloc, &network, Card::Levels, u64::from(network.buffer))?,
+            down: Down::new(),
+            network,
+            seed,
+        })
+    }
+
+    /// A packet comes to its sender's card. If the card's link is free the next packet there begins, which is told.
+    #[tactic(auto, using(crate::proofs::StandingLaws::one_changes))]
+    pub(crate) fn send(&mut self, packet: SimPacket) -> Result<Option<Begun>, NetworkStop>
+        ensures sent { OnOk result (self.new.flow.census.fates.sent ≡ self.old.flow.census.fates.sent + 1) }
+        ensures at_most_one { self.new.flow.census.fates.sent ≤ self.old.flow.census.fates.sent + 1 }
+        ensures delivered { self.new.flow.census.fates.delivered ≡ self.old.flow.census.fates.delivered }
+        ensures old { self.new.flow.census.fates.old ≡ self.old.flow.census.fates.old }
+        ensures moment { self.new.flow.agenda.moment ≡ self.old.flow.agenda.moment }
+        ensures lossless { OnOk result (IsLossless self.old self.new) }
+        ensures given { IsAsGiven self.old self.new }
+    {
+        let now = self.flow.in_time()?;
+        let place = packet.sender();
+        let fits = self.cards[place.host as usize].enter(now, packet)?;
+        self.flow.send(&packet);
+        if fits {
+            return self.begin_at_card(place);
+        }
+        self.flow.refuse(&packet);
+        Ok(None)
+    }
+
+    // A card sends its next packet, if its link is free.
+    #[tactic(auto, using(crate::proofs::StandingLaws::one_changes))]
+    fn begin_at_card(&mut self, place: Place) -> Result<Option<Begun>, NetworkStop>
+        requires entered { self.old.flow.agenda.count < 2 ^ 62 }
+        requires repeated { self.old.flow.census.fates.repeated < 2 ^ 62 }
+        ensures still { IsStill self.old.flow.census.fates self.new.flow.census.fates }
+        ensures moment { self.new.flow.agenda.moment ≡ self.old.flow.agenda.moment }
+        ensures lossless { OnOk result (IsLossless self.old self.new) }
+        ensures given { IsAsGiven self.old self.new }
+    {
+        let now = self.flow.agenda.now();
+        let Some((packet, passage)) = self.cards[place.host as usize].begin(now) else {
+            return Ok(None);
+        };
+        self.flow
+            .leave_card(place, &packet, passage, &self.network, self.seed)?;
+        Ok(Some(packet.begun(place, now)))
+    }
+
+    // An output sends its next packet, if its link is free.
+    #[tactic(auto, using(crate::proofs::StandingLaws::one_changes))]
+    fn begin_at_output(&mut self, place: Place) -> Result<Reached, NetworkStop>
+        requires { self.old.flow.agenda.count < 2 ^ 62 }
+        ensures still { IsStill self.old.flow.census.fates self.new.flow.census.fates }
+        ensures moment { self.new.flow.agenda.moment ≡ self.old.flow.agenda.moment }
+        ensures lossless { OnOk result (IsLossless self.old self.new) }
+        ensures given { IsAsGiven self.old self.new }
+        ensures none { IfOk result (λ reached. arriving reached ≡ 0) }
+    {
+        let now = self.flow.agenda.now();
+        let output = &mut self.outputs[place.host as usize];
+        let Some((packet, passage)) = output.begin(now) else {
+            if output.is_free(now) {
+                self.flow.set_taken(place, false);
+            }
+            return Ok(Reached::Nothing);
+        };
+        self.down.passes(packet.cause, u64::from(packet.bytes));
+        self.flow
+            .leave_output(place, &packet, passage, &self.network)?;
+        Ok(Reached::Output(packet.begun(place, now)))
+    }
+
+    /// What happens next, or none where nothing is due.
+    #[tactic(auto, using(crate::proofs::StandingLaws::one_changes))]
+    pub(crate) fn next(&mut self) -> Result<Option<Reached>, NetworkStop>
+        ensures sent { self.new.flow.census.fates.sent ≡ self.old.flow.census.fates.sent }
+        ensures arrived { IfOk result (λ r. self.new.flow.census.fates.delivered ≡ self.old.flow.census.fates.delivered + arrived r) }
+        ensures old { self.new.flow.census.fates.old ≡ self.old.flow.census.fates.old }
+        ensures forth { self.old.flow.agenda.moment ≤ self.new.flow.agenda.moment }
+        ensures lossless { OnOk result (IsLossless self.old self.new) }
+        ensures given { IsAsGiven self.old self.new }
+    {
+        self.flow.in_time()?;
+        let Some(event) = self.flow.next() else {
+            return Ok(None);
+        };
+        let reached = match event {
+            NetworkEvent::Task(task) => Reached::Task(task),
+            NetworkEvent::CardFree(place) => match self.begin_at_card(place)? {
+                Some(begun) => Reached::Card(begun),
+                None => Reached::Nothing,
+            },
+            NetworkEvent::OutputFree(place) => self.begin_at_output(place)?,
+            NetworkEvent::AtSwitch(packet) => {
+                let place = packet.receiver();
+                let output = &mut self.outputs[place.host as usize];
+                let waits = self.flow.reach(output, &packet)?;
+                if waits { self.begin_at_output(place)? } else { Reached::Nothing }
+            }
+            NetworkEvent::AtHost(packet) => {
+                self.flow.deliver(&packet);
+                Reached::AtHost(packet)
+            }
+        };
+        Ok(Some(reached))
+    }
+}
