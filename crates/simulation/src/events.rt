@@ -2,10 +2,9 @@
 ghost use Rattle.std.specs.Prelude.{◌≡◌, ◌≤◌, ◌<◌, ◌+◌, ◌^◌, OnOk, OnErr};
 ghost use Rattle.homa_io.specs.Outside.{appended, TookFront};
 ghost use Rattle.homa_plain.specs.Entries.{plain};
-ghost use Rattle.homa_plain.specs.Script.{counting};
 ghost use Rattle.homa_plain.specs.World.{World};
-ghost use Rattle.generated_runs.specs.Generated.{call_text};
-ghost use Rattle.simulation.specs.Turns.{IsShown, AreHeeded, HasHappened, said};
+ghost use Rattle.simulation.specs.Turns.{IsShown, AreHeeded, HasHappened, beside, line_of};
+ghost use Rattle.simulation.specs.Runs.{said};
 
 use crate::lines::show;
 use crate::setup::Setup;
@@ -52,33 +51,43 @@ fn stop_at(fault: WorldFault) -> SimStop {
     }
 }
 
-/// An event happens, with so many counting bytes beside it. It is printed, the world does it, and the network heeds what it
-/// tells.
+/// An event happens, with so many counting bytes beside it, and is counted. It is printed, the world does it, and the network
+/// heeds what it tells. Stops where the run has as many events as it may, and where more bytes stand beside the event than a
+/// message has.
 pub(crate) fn happen<P: GenerateWorld, N: HostNetwork, K: Sink>(
     setup: &Setup,
     world: &mut P,
     network: &mut N,
     sink: &mut K,
+    events: &mut u64,
     event: &Event,
     bytes: u32,
 ) -> Result<(), SimStop>
     requires few { P.events world.old < 2 ^ 57 }
-    requires short { bytes ≤ 1000000 }
+    requires room { events.old < 2 ^ 57 }
     ensures happened { OnOk result ((w : World) → P.stands world.old w
-        → HasHappened N.heeds (P.settings world.old) w (record { event = event.now; bytes = counting 0 bytes }) network.old network.new
-        (P.stands world.new) (P.allows world.old) (P.allows world.new)) }
-    ensures printed { OnOk result (K.taken sink.new ≡ appended (K.taken sink.old) (said setup.now.prints (call_text event.now (counting 0 bytes)))) }
-    ensures part { OnErr result (TookFront (K.taken sink.old) (K.taken sink.new) (said setup.now.prints (call_text event.now (counting 0 bytes)))) }
+        → HasHappened N.heeds (P.settings world.old) w (beside event.now bytes) network.old network.new (P.stands world.new) (P.allows world.old)
+        (P.allows world.new)) }
+    ensures printed { OnOk result (K.taken sink.new ≡ appended (K.taken sink.old) (said setup.now.prints (line_of (beside event.now bytes)))) }
+    ensures counted { OnOk result (events.new ≡ events.old + 1) }
+    ensures part { OnErr result (TookFront (K.taken sink.old) (K.taken sink.new) (said setup.now.prints (line_of (beside event.now bytes)))) }
     ensures settings { P.settings world.new ≡ P.settings world.old }
-    ensures counted { P.events world.new ≤ P.events world.old + 1 }
+    ensures applied { P.events world.new ≤ P.events world.old + 1 }
     ensures same { K.is_same sink.old sink.new }
 {
-    let beside = &setup.bytes[..bytes as usize];
-    show(setup, sink, event, beside)?;
-    match world.apply(setup.alloc, event, beside) {
+    if setup.most_events != 0 && setup.most_events <= *events {
+        return Err(SimStop::Events);
+    }
+    if setup.bytes.len() < bytes as usize {
+        return Err(SimStop::TooLong);
+    }
+    let request = &setup.bytes[..bytes as usize];
+    show(setup, sink, event, request)?;
+    match world.apply(setup.alloc, event, request) {
         Ok(()) => {}
         Err(fault) => return Err(stop_at(fault)),
     }
     heed_all(world, network)?;
+    *events += 1;
     Ok(())
 }

@@ -11,9 +11,13 @@ mod host_network;
 mod lines;
 mod network;
 mod running;
+mod services;
 mod setup;
 mod stop;
+#[cfg(test)]
+mod tests;
 
 pub use host_network::HostNetwork;
 pub use running::{Far, Telling, simulate};
+pub use services::suites;
 pub use stop::SimStop;

@@ -4,7 +4,7 @@ ghost use Rattle.std.specs.Fmt.{decimal};
 ghost use Rattle.homa_io.specs.Writing.{IsWritten};
 ghost use Rattle.homa_plain.specs.Script.{settings_text};
 ghost use Rattle.generated_runs.specs.Generated.{call_text};
-ghost use Rattle.simulation.specs.Turns.{said};
+ghost use Rattle.simulation.specs.Runs.{said};
 
 use crate::setup::Setup;
 use arrayvec::ArrayVec;

@@ -1,19 +1,36 @@
 // The simulated network, as what surrounds a world.
+ghost use Rattle.std.specs.Prelude.{◌≡◌};
+ghost use Rattle.simulation.specs.Network.{datagram_of};
+
 use crate::HostNetwork;
 use homa_plain::Entry;
 use homa_world::Passing;
-use simulated_network::{NetworkStop, SimulatedNetwork, Step};
+use simulated_network::{Datagram, NetworkStop, SimulatedNetwork, Step};
+
+// What is known of a packet's datagram.
+fn datagram_of(passing: Option<Passing>) -> Option<Datagram>
+    ensures { result ≡ datagram_of passing }
+{
+    let passing = passing?;
+    Some(Datagram {
+        len: passing.len,
+        tick: passing.tick,
+    })
+}
 
 impl HostNetwork for SimulatedNetwork<'_> {
-    ghost gives = { λ a tick step b. Unit {0} };
+    ghost use Rattle.simulated_network.specs.Troubles.{one_left_out};
+    ghost use Rattle.simulation.specs.Network.{Gives, Heeds};
 
-    ghost heeds = { λ a entry passing b. Unit {0} };
+    ghost gives = { λ a tick given b. Gives a given b };
 
-    ghost leaves = { λ a b. Unit {0} };
+    ghost heeds = { λ a e passing b. Heeds a e passing b };
 
-    ghost moment = { λ a. 0 };
+    ghost leaves = { λ a b. b ≡ record a { trouble = one_left_out a.trouble } };
 
-    ghost count = { λ a. 0 };
+    ghost moment = { λ a. a.network.moment };
+
+    ghost count = { λ a. a.drawn };
 
     fn next(&mut self, tick: u64) -> Result<Step, NetworkStop> {
         SimulatedNetwork::next(self, tick)
@@ -24,7 +41,7 @@ impl HostNetwork for SimulatedNetwork<'_> {
     }
 
     fn heed(&mut self, entry: &Entry<'_>, passing: Option<Passing>) -> Result<(), NetworkStop> {
-        SimulatedNetwork::heed(self, entry, passing)
+        SimulatedNetwork::heed(self, entry, datagram_of(passing))
     }
 
     fn now(&self) -> u64 {

@@ -1,11 +1,11 @@
 // The turns of a run, from its first to its last.
 ghost use Rattle.std.specs.Prelude.{◌≡◌, ◌≤◌, ◌<◌, ◌+◌, ◌^◌, OnOk, OnErr, IfOk};
-ghost use Rattle.homa_io.specs.Outside.{TookFront};
 ghost use Rattle.homa_plain.specs.World.{World};
+ghost use Rattle.simulation.specs.Runs.{at, HasRun, HasStopped, IsRun, IsPart};
 
 use crate::events::happen;
 use crate::lines::begin;
-use crate::setup::{MOST_BYTES, Setup};
+use crate::setup::Setup;
 use crate::{HostNetwork, SimStop};
 use experiment::Experiment;
 use homa_generate::GenerateWorld;
@@ -31,27 +31,14 @@ pub struct Far {
 
 /// What hears how far a run is.
 pub trait Telling {
+    ghost use Rattle.simulation.specs.declared.running.Far.{Far};
+
     /// From one state to the next, it heard that a run is so far.
     ghost hears: { Self → Far → Self → Type 0 };
 
     /// Hears how far a run is.
     fn tell(&mut self, far: &Far)
         ensures { hears self.old far.now self.new };
-}
-
-// An event happens, unless as many did as the run may have, or more bytes stand beside it than a message has.
-fn take<P: GenerateWorld, N: HostNetwork, K: Sink>(
-    setup: &Setup,
-    world: &mut P,
-    network: &mut N,
-    sink: &mut K,
-    event: &Event,
-    bytes: u32,
-) -> Result<(), SimStop> {
-    if MOST_BYTES < bytes {
-        return Err(SimStop::TooLong);
-    }
-    happen(setup, world, network, sink, event, bytes)
 }
 
 // A turn of a run; whether the run goes on.
@@ -61,10 +48,28 @@ fn turn<P: GenerateWorld, N: HostNetwork, K: Sink>(
     network: &mut N,
     sink: &mut K,
     events: &mut u64,
-) -> Result<bool, SimStop> {
-    let (event, bytes) = match network.next(world.clock())? {
+) -> Result<bool, SimStop>
+    requires settings { setup.now.settings ≡ P.settings world.old }
+    requires few { P.events world.old < 2 ^ 57 }
+    requires room { events.old < 2 ^ 57 }
+    ensures ran { OnOk result ((w : World) → P.stands world.old w
+        → HasRun N.gives N.heeds N.leaves (P.settings world.old) setup.now.service setup.now.prints w
+        (at network.old events.old (K.taken sink.old)) (at network.new events.new (K.taken sink.new))
+        (P.stands world.new) (P.allows world.old) (P.allows world.new)) }
+    ensures stopped { OnErr result ((w : World) → P.stands world.old w
+        → HasStopped N.gives N.heeds N.leaves (P.settings world.old) setup.now.service setup.now.prints w
+        (at network.old events.old (K.taken sink.old)) (K.taken sink.new) (P.allows world.old)) }
+    ensures settings { P.settings world.new ≡ P.settings world.old }
+    ensures applied { P.events world.new ≤ P.events world.old + 1 }
+    ensures rises { OnOk result (events.new ≤ events.old + 1) }
+    ensures same { K.is_same sink.old sink.new }
+{
+    match network.next(world.clock())? {
         Step::Over => return Ok(false),
-        Step::Inside => return Ok(true),
+        Step::Inside => {}
+        Step::Event { event, bytes } => {
+            happen(setup, world, network, sink, events, &event, bytes)?;
+        }
         Step::Call {
             client,
             server,
@@ -79,15 +84,9 @@ fn turn<P: GenerateWorld, N: HostNetwork, K: Sink>(
                 server,
                 number: setup.service,
             };
-            (event, bytes)
+            happen(setup, world, network, sink, events, &event, bytes)?;
         }
-        Step::Event { event, bytes } => (event, bytes),
-    };
-    if setup.most_events != 0 && setup.most_events <= *events {
-        return Err(SimStop::Events);
     }
-    take(setup, world, network, sink, &event, bytes)?;
-    *events += 1;
     Ok(true)
 }
 
@@ -98,7 +97,18 @@ pub(crate) fn play<P: GenerateWorld, N: HostNetwork, K: Sink, T: Telling>(
     network: &mut N,
     sink: &mut K,
     telling: &mut T,
-) -> Result<u64, SimStop> {
+) -> Result<u64, SimStop>
+    requires settings { setup.now.settings ≡ P.settings world.old }
+    requires few { P.events world.old ≤ 2 ^ 56 }
+    ensures ran { IfOk result (λ events. (w : World) → P.stands world.old w
+        → HasRun N.gives N.heeds N.leaves (P.settings world.old) setup.now.service setup.now.prints w
+        (at network.old 0 (K.taken sink.old)) (at network.new events (K.taken sink.new))
+        (P.stands world.new) (P.allows world.old) (P.allows world.new)) }
+    ensures stopped { OnErr result ((w : World) → P.stands world.old w
+        → HasStopped N.gives N.heeds N.leaves (P.settings world.old) setup.now.service setup.now.prints w
+        (at network.old 0 (K.taken sink.old)) (K.taken sink.new) (P.allows world.old)) }
+    ensures same { K.is_same sink.old sink.new }
+{
     let mut events = 0;
     for turns in 0..MOST_TURNS {
         if !turn(setup, world, network, sink, &mut events)? {
@@ -117,7 +127,8 @@ pub(crate) fn play<P: GenerateWorld, N: HostNetwork, K: Sink, T: Telling>(
 }
 
 /// Runs an experiment with a seed in a world with these boxes, in which nothing has happened. If `prints`, the sink takes the
-/// settings and each event, as lines of a schedule.
+/// settings and the line of each event, which is a schedule. After a stop it took a front of one; the event at which the world
+/// stopped is its last.
 pub fn simulate<B: Drop, P: GenerateWorld + OpenWorld<B> + Drop, K: Sink, T: Telling>(
     alloc: Global,
     experiment: &Experiment,
@@ -128,6 +139,10 @@ pub fn simulate<B: Drop, P: GenerateWorld + OpenWorld<B> + Drop, K: Sink, T: Tel
     telling: &mut T,
 ) -> Result<Outcome, SimStop>
     requires { P.are_ready boxes }
+    ensures ran { IfOk result (λ outcome. IsRun experiment.now.settings (P.many boxes) prints (P.are_allowed boxes) (K.taken sink.old) (K.taken sink.new)
+        outcome.events) }
+    ensures stopped { OnErr result (IsPart experiment.now.settings (P.many boxes) prints (P.are_allowed boxes) (K.taken sink.old) (K.taken sink.new)) }
+    ensures same { K.is_same sink.old sink.new }
 {
     let setup = Setup::new(alloc, experiment, prints)?;
     let mut world = P::open(alloc, &setup.settings, boxes)?;

@@ -1,5 +1,5 @@
 // What doesn't change in a run.
-ghost use Rattle.std.specs.Prelude.{◌≡◌, IfOk};
+ghost use Rattle.std.specs.Prelude.{◌≡◌, IfOk, length};
 ghost use Rattle.homa_plain.specs.Script.{counting};
 ghost use Rattle.homa_plain.specs.Settings.{IsValid};
 
@@ -8,8 +8,8 @@ use homa_plain::Settings;
 use homa_text::counting_bytes;
 use std::alloc::{AllocError, Global};
 
-/// The most bytes of a request or of an injected datagram.
-pub(crate) const MOST_BYTES: u32 = 1_000_000;
+// The most bytes of a request or of an injected datagram.
+const MOST_BYTES: u32 = 1_000_000;
 
 /// What doesn't change in a run: the world's settings, the number of the service that is called, the bytes of which each
 /// request has a front, after how many events the run stops (0: never), and whether its events are printed.
@@ -22,7 +22,14 @@ pub(crate) struct Setup {
     pub(crate) bytes: Vec<u8>,
     pub(crate) prints: bool,
     ghost valid: { IsValid settings },
-    ghost counting: { bytes.items ≡ counting 0 1000000 },
+    ghost counting: { bytes.items ≡ counting 0 (length bytes.items) },
+}
+
+// So many bytes of which requests have a front.
+fn request_bytes(alloc: Global, size: u32) -> Result<Vec<u8>, AllocError>
+    ensures { IfOk result (λ bytes. bytes.items ≡ counting 0 (length bytes.items)) }
+{
+    counting_bytes(alloc, size)
 }
 
 impl Setup {
@@ -41,7 +48,7 @@ impl Setup {
             settings: experiment.settings,
             service: experiment.load.service as u8,
             most_events: experiment.load.events,
-            bytes: counting_bytes(alloc, MOST_BYTES)?,
+            bytes: request_bytes(alloc, MOST_BYTES)?,
             prints,
         })
     }

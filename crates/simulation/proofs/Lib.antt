@@ -1,0 +1,3 @@
+pub mod HeedLaws
+pub mod TurnLaws
+pub mod RunLaws

@@ -1,0 +1,31 @@
+-- The simulated network, as what surrounds a world.
+use Rattle.std.specs.Prelude.{◌≡◌, ◌≤◌, ◌+◌, ◌-◌, ◌^◌, ℕ, min, Option, None, Some, ◌++◌}
+use Rattle.homa_plain.specs.Entries.{PlainEntry}
+use Rattle.homa_world.specs.declared.shown.Passing.{Passing}
+use Rattle.simulated_network.specs.declared.step.Datagram.{Datagram}
+use Rattle.simulated_network.specs.declared.step.Step.{Step}
+use Rattle.simulated_network.specs.Runs.{RunState, all_made, made_by, sent_by, drawn_by, delivered_by}
+
+-- what is known of a packet's datagram
+abbrev pub datagram_of : Option Passing → Option Datagram
+datagram_of None = None
+datagram_of (Some p) = Some (record { len = p.len; tick = p.tick })
+
+-- It gave a step: a call that it asks for counts as drawn, a packet that it brings as delivered; no call is made and no packet sent,
+-- and time doesn't go back.
+pub record Gives (a : RunState) (given : Step) (b : RunState) : Type 0 where
+  pub made : all_made b.calls ≡ all_made a.calls
+  pub drawn : b.drawn ≡ min (a.drawn + drawn_by given) (2 ^ 32 - 1)
+  pub delivered : b.network.fates.delivered ≡ a.network.fates.delivered + delivered_by given
+  pub sent : b.network.fates.sent ≡ a.network.fates.sent
+  pub forth : a.network.moment ≤ b.network.moment
+  pub left_out : b.trouble.left_out ≡ a.trouble.left_out
+
+-- It heeded an entry: a call that it tells is made at this moment, a packet that it tells is sent, and all else that is counted stays.
+pub record Heeds (a : RunState) (e : PlainEntry) (passing : Option Passing) (b : RunState) : Type 0 where
+  pub made : all_made b.calls ≡ all_made a.calls ++ made_by e a.drawn a.network.moment
+  pub sent : b.network.fates.sent ≡ a.network.fates.sent + sent_by e (datagram_of passing)
+  pub delivered : b.network.fates.delivered ≡ a.network.fates.delivered
+  pub moment : b.network.moment ≡ a.network.moment
+  pub drawn : b.drawn ≡ a.drawn
+  pub left_out : b.trouble.left_out ≡ a.trouble.left_out
