@@ -1,14 +1,17 @@
 // A line for each call.
+ghost use Rattle.std.specs.Prelude.{◌≡◌};
+ghost use Rattle.simulate.specs.Rows.{names};
+ghost use Rattle.simulate.specs.Columns.{call_names};
 use crate::cells::Cell;
 use crate::parts::nanos;
-use crate::rows::{Column, Printer, named};
-use crate::stop::PrintStop;
+use crate::rows::{Column, add_head, add_line, named};
 use crate::tally::waits_of;
+use crate::words::Format;
 use call_figures::{CallEnd, Rank, SimCall, call_alone, response_to};
 use experiment::Experiment;
-use homa_io::Sink;
 use homa_plain::{CallId, HostId};
-use simulated_network::Outcome;
+use simulated_network::RunOutcome;
+use std::alloc::AllocError;
 
 // The word of an end.
 fn end_word(end: CallEnd) -> &'static str {
@@ -52,13 +55,15 @@ fn ended(call: &SimCall) -> Option<u64> {
     }
 }
 
-/// The columns of a call: moments and spans are nanoseconds.
+// The columns of a call: moments and spans are nanoseconds.
 fn columns(
     experiment: &Experiment,
-    outcome: &Outcome,
+    outcome: &RunOutcome,
     seed: u64,
     call: &SimCall,
-) -> [Column; 21] {
+) -> [Column; 21]
+    ensures { names result ≡ call_names }
+{
     let waits = waits_of(outcome, call);
     let response = response_to(experiment, call.request);
     [
@@ -107,19 +112,24 @@ fn no_call() -> SimCall {
     }
 }
 
-/// Writes a line for each call of a run that was measured, behind the names of the columns if the run is the first one.
-pub(crate) fn put_calls<K: Sink + Drop>(
-    printer: &mut Printer<K>,
+/// Adds the names of the columns of a call.
+pub(crate) fn add_call_head(
+    text: &mut String,
+    format: Format,
     experiment: &Experiment,
-    outcome: &Outcome,
+    outcome: &RunOutcome,
+) -> Result<(), AllocError> {
+    add_head(text, format, &columns(experiment, outcome, 0, &no_call()))
+}
+
+/// Adds the line of a call.
+pub(crate) fn add_call(
+    text: &mut String,
+    format: Format,
+    experiment: &Experiment,
+    outcome: &RunOutcome,
     seed: u64,
-    is_first: bool,
-) -> Result<(), PrintStop> {
-    if is_first {
-        printer.head(&columns(experiment, outcome, seed, &no_call()))?;
-    }
-    for call in outcome.measured(&experiment.load) {
-        printer.line(&columns(experiment, outcome, seed, call))?;
-    }
-    Ok(())
+    call: &SimCall,
+) -> Result<(), AllocError> {
+    add_line(text, format, &columns(experiment, outcome, seed, call))
 }

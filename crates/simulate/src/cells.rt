@@ -1,4 +1,8 @@
 // What stands in a column.
+ghost use Rattle.std.specs.Prelude.{◌≡◌, ◌++◌, OnOk, string_bytes, decimal};
+ghost use Rattle.homa_plain.specs.Text.{id_word};
+ghost use Rattle.simulate.specs.Cells.{thousandths, cell_text, quoted, value_text};
+
 use call_figures::Rank;
 use homa_plain::CallId;
 use std::alloc::AllocError;
@@ -32,25 +36,33 @@ impl fmt::Display for Thousandths {
     }
 }
 
-// Adds a number of 1000ths.
-fn add_thousandths(text: &mut String, n: u64) -> Result<(), AllocError> {
-    let n = Thousandths(n);
+// Adds a number.
+fn add_number(text: &mut String, n: u64) -> Result<(), AllocError>
+    ensures { OnOk result (string_bytes text.new ≡ string_bytes text.old ++ decimal n) }
+{
     write!(text, "{n}")
 }
 
+// Adds a number of 1000ths.
+fn add_thousandths(text: &mut String, n: u64) -> Result<(), AllocError>
+    ensures { OnOk result (string_bytes text.new ≡ string_bytes text.old ++ thousandths n) }
+{
+    let (whole, first, second, third) = (n / 1000, n / 100 % 10, n / 10 % 10, n % 10);
+    write!(text, "{whole}.{first}{second}{third}")
+}
+
 // Adds a call.
-fn add_id(text: &mut String, id: CallId) -> Result<(), AllocError> {
+fn add_id(text: &mut String, id: CallId) -> Result<(), AllocError>
+    ensures { OnOk result (string_bytes text.new ≡ string_bytes text.old ++ id_word id) }
+{
     let (client, inc, seq) = (id.client.0, id.inc, id.seq);
     write!(text, "{client}.{inc}.{seq}")
 }
 
-// Adds a number.
-fn add_number(text: &mut String, n: u64) -> Result<(), AllocError> {
-    write!(text, "{n}")
-}
-
 /// Adds what stands in a column of CSV.
-pub(crate) fn add_cell(text: &mut String, cell: Cell) -> Result<(), AllocError> {
+pub(crate) fn add_cell(text: &mut String, cell: Cell) -> Result<(), AllocError>
+    ensures { OnOk result (string_bytes text.new ≡ string_bytes text.old ++ cell_text cell) }
+{
     match cell {
         Cell::Word(word) => text.push_str(word),
         Cell::Number(n) => add_number(text, n),
@@ -63,17 +75,21 @@ pub(crate) fn add_cell(text: &mut String, cell: Cell) -> Result<(), AllocError> 
 }
 
 // Adds a text of JSON.
-fn add_quoted(text: &mut String, cell: Cell) -> Result<(), AllocError> {
+fn add_quoted(text: &mut String, cell: Cell) -> Result<(), AllocError>
+    ensures { OnOk result (string_bytes text.new ≡ string_bytes text.old ++ quoted (cell_text cell)) }
+{
     text.push_str("\"")?;
     add_cell(text, cell)?;
     text.push_str("\"")
 }
 
 /// Adds a value of JSON: null for what isn't known.
-pub(crate) fn add_value(text: &mut String, cell: Cell) -> Result<(), AllocError> {
+pub(crate) fn add_value(text: &mut String, cell: Cell) -> Result<(), AllocError>
+    ensures { OnOk result (string_bytes text.new ≡ string_bytes text.old ++ value_text cell) }
+{
     match cell {
         Cell::Word(_) | Cell::Id(_) | Cell::Rank(Rank::Slower) => add_quoted(text, cell),
         Cell::Rank(Rank::Few) | Cell::Empty => text.push_str("null"),
-        _ => add_cell(text, cell),
+        Cell::Number(_) | Cell::Thousandths(_) | Cell::Rank(Rank::At(_)) => add_cell(text, cell),
     }
 }

@@ -1,11 +1,14 @@
 // What is wrong, in words.
+use crate::ended::Ended;
 use crate::values::setting_word;
+use crate::words::WordFault;
 use experiment::{ExperimentFault, Wrong};
+use simulation::SimStop;
 use std::fmt;
 
-/// What is wrong with a line or a word of an experiment, in words.
+// What is wrong with a line or a word of an experiment, in words.
 #[derive(Drop)]
-pub(crate) struct InWords(pub(crate) Wrong);
+struct InWords(Wrong);
 
 impl fmt::Display for InWords {
     fn fmt<W: fmt::Write>(&self, f: &mut fmt::Formatter<W>) -> fmt::Result {
@@ -38,6 +41,63 @@ impl fmt::Display for InWords {
             Wrong::Nothing => f.write_str("no line says anything"),
             Wrong::SelfCall => f.write_str("a host doesn't call itself"),
             Wrong::TooMany(most) => write!(f, "there may be at most {most} such lines"),
+        }
+    }
+}
+
+/// Why the program ended, in words; with the words of its command line.
+#[derive(Drop)]
+pub(crate) struct Why<'a> {
+    pub(crate) ended: Ended,
+    pub(crate) words: &'a [&'a str],
+}
+
+// Why a run stopped, in words.
+fn stop_words(stop: SimStop) -> &'static str {
+    match stop {
+        SimStop::NoMemory => "there is no memory",
+        SimStop::Write => "standard output took no more",
+        SimStop::Refused(_) => "the world refused an event, which is a fault of this program",
+        SimStop::TooLong => "the run goes on for longer than one may",
+        SimStop::Events => "the run has as many events as `events` allows",
+    }
+}
+
+impl Why<'_> {
+    // The word of the command line at this place.
+    fn word(&self, at: usize) -> &str {
+        match self.words.get(at) {
+            Some(word) => word,
+            None => "",
+        }
+    }
+}
+
+impl fmt::Display for Why<'_> {
+    fn fmt<W: fmt::Write>(&self, f: &mut fmt::Formatter<W>) -> fmt::Result {
+        match self.ended {
+            Ended::Printed | Ended::Helped => f.write_str("all is printed"),
+            Ended::Words(WordFault::Missing) => {
+                f.write_str("a word that says what is printed is missing; --help lists them")
+            }
+            Ended::Words(WordFault::Unknown(at)) => {
+                let word = self.word(at);
+                write!(f, "`{word}` is no word that there is; --help lists them")
+            }
+            Ended::Words(WordFault::Twice(at)) => {
+                let word = self.word(at);
+                write!(f, "`{word}` is one word too many; --help lists them")
+            }
+            Ended::Words(WordFault::NoColumns) => {
+                f.write_str("`summary` and `schedule` have no columns, so no `--json`")
+            }
+            Ended::Unread(ExperimentFault::Read) => f.write_str("standard input can't be read"),
+            Ended::Unread(ExperimentFault::NoMemory) => f.write_str("there is no memory"),
+            Ended::Unread(ExperimentFault::Said { line, word, wrong }) => {
+                let wrong = InWords(wrong);
+                write!(f, "line {line}, word {word}: {wrong}")
+            }
+            Ended::Stopped(stop) => f.write_str(stop_words(stop)),
         }
     }
 }

@@ -2,43 +2,40 @@
 use crate::cells::Thousandths;
 use crate::parts::part;
 use simulation::{Far, Telling};
+use std::rt::Clock;
 use std::time::Instant;
+
+/// What hears how far runs have come.
+pub(crate) trait Hearing: Telling {
+    /// Another run begins, with this seed, in which so many calls are to be drawn.
+    fn begin(&mut self, seed: u64, calls: u64);
+}
 
 /// Tells how far a run has come, at most once a second.
 #[derive(Drop)]
-pub(crate) struct Progress<'a> {
-    rt: &'a HostRuntime,
+pub(crate) struct Progress<'a, R> {
+    rt: &'a R,
+    // When it began; it tells nothing if nobody asked.
     began: Option<Instant>,
     seed: u64,
-    // How many calls are to be made.
     calls: u64,
-    // The second in which it was told last.
+    // The second in which it told last.
     told: u64,
 }
 
-impl<'a> Progress<'a> {
-    /// That of a run of so many calls. It tells nothing unless it is asked.
-    pub(crate) fn new(
-        rt: &'a HostRuntime,
-        is_asked: bool,
-        seed: u64,
-        calls: u64,
-    ) -> Progress<'a> {
-        let began = if is_asked {
-            Instant::now(rt).ok()
-        } else {
-            None
-        };
+impl<'a, R: Clock + Eprint> Progress<'a, R> {
+    /// That of runs that begin now.
+    pub(crate) fn new(rt: &'a R) -> Progress<'a, R> {
         Progress {
             rt,
-            began,
-            seed,
-            calls,
+            began: Instant::now(rt).ok(),
+            seed: 0,
+            calls: 0,
             told: 0,
         }
     }
 
-    // Tells it in another second than the last time.
+    // Tells it, if another second has begun.
     fn look(&mut self, far: &Far) {
         let Some(began) = &self.began else {
             return;
@@ -51,18 +48,39 @@ impl<'a> Progress<'a> {
             return;
         }
         self.told = seconds;
-        let part = Thousandths(part(u128::from(far.drawn), u128::from(self.calls)));
+        let done = Thousandths(part(u128::from(far.drawn), u128::from(self.calls)));
         let (seed, calls, micros) = (self.seed, self.calls, far.now / 1_000_000);
         let _ = eprintln!(self.rt;
-            "homa-simulate: seed {seed}: {part} of {calls} calls, {micros} us simulated, {seconds} s elapsed"
+            "homa-simulate: seed {seed}: {done} of {calls} calls, {micros} us simulated, {seconds} s elapsed"
         );
     }
 }
 
-impl Telling for Progress<'_> {
+impl<R: Clock + Eprint> Telling for Progress<'_, R> {
     ghost hears = { λ a far b. Unit {0} };
 
     fn tell(&mut self, far: &Far) {
         self.look(far);
     }
+}
+
+impl<R: Clock + Eprint> Hearing for Progress<'_, R> {
+    fn begin(&mut self, seed: u64, calls: u64) {
+        self.seed = seed;
+        self.calls = calls;
+    }
+}
+
+/// Tells nothing.
+#[derive(Drop)]
+pub(crate) struct Silence;
+
+impl Telling for Silence {
+    ghost hears = { λ a far b. Unit {0} };
+
+    fn tell(&mut self, _far: &Far) {}
+}
+
+impl Hearing for Silence {
+    fn begin(&mut self, _seed: u64, _calls: u64) {}
 }

@@ -1,9 +1,11 @@
 // Lines with columns.
+ghost use Rattle.std.specs.Prelude.{◌≡◌, ◌++◌, OnOk, string_bytes};
+ghost use Rattle.std.specs.List.{flat_map};
+ghost use Rattle.simulate.specs.Rows.{part_text, next_part, row_text, head_text, line_text};
+
 use crate::cells::{Cell, add_cell, add_value};
-use crate::stop::PrintStop;
 use crate::words::Format;
-use homa_io::{Sink, write_all};
-use std::alloc::{AllocError, Global};
+use std::alloc::AllocError;
 
 /// A column of a line: its name, and what stands in it.
 #[derive(Clone, Copy, Debug, PartialEq, Eq)]
@@ -12,99 +14,101 @@ pub(crate) struct Column {
     pub(crate) cell: Cell,
 }
 
+// What a line has of its columns: their names, what stands in them, or both.
+#[derive(Clone, Copy, Debug, PartialEq, Eq)]
+enum Form {
+    Names,
+    Cells,
+    Fields,
+}
+
 /// A column with this name.
-pub(crate) fn named(name: &'static str, cell: Cell) -> Column {
+pub(crate) fn named(name: &'static str, cell: Cell) -> Column
+    ensures name { result.name.now ≡ name.now }
+    ensures cell { result.cell ≡ cell }
+{
     Column { name, cell }
 }
 
-// Adds a comma, unless the column is the first one.
-fn add_comma(text: &mut String, at: usize) -> Result<(), AllocError> {
-    if at == 0 { Ok(()) } else { text.push_str(",") }
-}
-
-// Adds the names of the columns.
-fn add_names(text: &mut String, columns: &[Column]) -> Result<(), AllocError> {
-    for (at, column) in columns.iter().enumerate() {
-        add_comma(text, at)?;
-        text.push_str(column.name)?;
-    }
-    text.push_str("\n")
-}
-
-// Adds what stands in the columns.
-fn add_cells(text: &mut String, columns: &[Column]) -> Result<(), AllocError> {
-    for (at, column) in columns.iter().enumerate() {
-        add_comma(text, at)?;
-        add_cell(text, column.cell)?;
-    }
-    text.push_str("\n")
-}
-
 // Adds a name with its value.
-fn add_field(text: &mut String, column: Column) -> Result<(), AllocError> {
+fn add_field(text: &mut String, column: &Column) -> Result<(), AllocError>
+    ensures { OnOk result (string_bytes text.new ≡ string_bytes text.old ++ part_text Form.Fields column.now) }
+{
     text.push_str("\"")?;
     text.push_str(column.name)?;
     text.push_str("\":")?;
     add_value(text, column.cell)
 }
 
-// Adds an object with a field for each column.
-fn add_object(text: &mut String, columns: &[Column]) -> Result<(), AllocError> {
-    text.push_str("{")?;
-    for (at, column) in columns.iter().enumerate() {
-        add_comma(text, at)?;
-        add_field(text, *column)?;
+// Adds what a form has of a column.
+fn add_part(text: &mut String, form: Form, column: &Column) -> Result<(), AllocError>
+    ensures { OnOk result (string_bytes text.new ≡ string_bytes text.old ++ part_text form column.now) }
+{
+    match form {
+        Form::Names => text.push_str(column.name),
+        Form::Cells => add_cell(text, column.cell),
+        Form::Fields => add_field(text, column),
     }
-    text.push_str("}\n")
 }
 
-/// A sink with room for a line, and the form of lines.
-#[derive(Drop)]
-pub(crate) struct Printer<K> {
-    pub(crate) sink: K,
-    pub(crate) text: String,
-    pub(crate) format: Format,
+// Adds that of columns, each behind a comma.
+fn add_others(text: &mut String, form: Form, columns: &[Column]) -> Result<(), AllocError>
+    ensures { OnOk result (string_bytes text.new ≡ string_bytes text.old ++ flat_map (next_part form) columns.now) }
+{
+    for column in columns {
+        text.push_str(",")?;
+        add_part(text, form, column)?;
+    }
+    Ok(())
 }
 
-impl<K: Sink + Drop> Printer<K> {
-    /// A printer over this sink.
-    pub(crate) fn new(alloc: Global, sink: K, format: Format) -> Printer<K> {
-        Printer {
-            sink,
-            text: String::new(alloc),
-            format,
+// Adds that of columns, with commas between them.
+fn add_row(text: &mut String, form: Form, columns: &[Column]) -> Result<(), AllocError>
+    ensures { OnOk result (string_bytes text.new ≡ string_bytes text.old ++ row_text form columns.now) }
+{
+    match columns {
+        [] => Ok(()),
+        [first, others @ ..] => {
+            add_part(text, form, first)?;
+            add_others(text, form, others)
         }
     }
+}
 
-    /// Writes the line that is made, which then is empty.
-    pub(crate) fn write(&mut self) -> Result<(), PrintStop> {
-        write_all(&mut self.sink, self.text.as_bytes())?;
-        self.text.clear();
-        Ok(())
-    }
-
-    /// Writes a text.
-    pub(crate) fn put(&mut self, text: &str) -> Result<(), PrintStop> {
-        Ok(write_all(&mut self.sink, text.as_bytes())?)
-    }
-
-    /// Writes the names of these columns, if the form has them in a line of their own.
-    pub(crate) fn head(&mut self, columns: &[Column]) -> Result<(), PrintStop> {
-        match self.format {
-            Format::Csv => {
-                add_names(&mut self.text, columns)?;
-                self.write()
-            }
-            Format::Json => Ok(()),
+/// Adds the names of these columns, if the form has them in a line of their own.
+pub(crate) fn add_head(
+    text: &mut String,
+    format: Format,
+    columns: &[Column],
+) -> Result<(), AllocError>
+    ensures { OnOk result (string_bytes text.new ≡ string_bytes text.old ++ head_text format columns.now) }
+{
+    match format {
+        Format::Csv => {
+            add_row(text, Form::Names, columns)?;
+            text.push_str("\n")
         }
+        Format::Json => Ok(()),
     }
+}
 
-    /// Writes a line of these columns.
-    pub(crate) fn line(&mut self, columns: &[Column]) -> Result<(), PrintStop> {
-        match self.format {
-            Format::Csv => add_cells(&mut self.text, columns)?,
-            Format::Json => add_object(&mut self.text, columns)?,
+/// Adds a line of these columns.
+pub(crate) fn add_line(
+    text: &mut String,
+    format: Format,
+    columns: &[Column],
+) -> Result<(), AllocError>
+    ensures { OnOk result (string_bytes text.new ≡ string_bytes text.old ++ line_text format columns.now) }
+{
+    match format {
+        Format::Csv => {
+            add_row(text, Form::Cells, columns)?;
+            text.push_str("\n")
         }
-        self.write()
+        Format::Json => {
+            text.push_str("{")?;
+            add_row(text, Form::Fields, columns)?;
+            text.push_str("}\n")
+        }
     }
 }

@@ -1,9 +1,11 @@
 // Slowdowns by length, for each seed and over all of them.
+ghost use Rattle.std.specs.Prelude.{◌≡◌};
+ghost use Rattle.simulate.specs.Rows.{names};
+ghost use Rattle.simulate.specs.Columns.{slowdown_names};
 use crate::cells::Cell;
-use crate::rows::{Column, Printer, named};
-use crate::stop::PrintStop;
+use crate::rows::{Column, add_head, add_line, named};
+use crate::words::Format;
 use call_figures::{Figures, Interval, Rank, Slowdowns};
-use homa_io::Sink;
 use std::alloc::{AllocError, Global};
 
 /// Which of the calls that were measured a line is about.
@@ -143,7 +145,9 @@ pub(crate) fn spread_over(
 }
 
 // The columns of a group.
-fn columns(seed: Cell, group: Group, it: &Spread) -> [Column; 12] {
+fn columns(seed: Cell, group: Group, it: &Spread) -> [Column; 12]
+    ensures { names result ≡ slowdown_names }
+{
     [
         named("seed", seed),
         named("part", group.cell()),
@@ -160,66 +164,79 @@ fn columns(seed: Cell, group: Group, it: &Spread) -> [Column; 12] {
     ]
 }
 
-// The groups that aren't parts of the lengths.
-const OTHERS: [Group; 3] = [Group::All, Group::First, Group::Second];
-
-// Writes the line of a group in one run.
-fn put_group<K: Sink + Drop>(
-    printer: &mut Printer<K>,
+// Adds the line of a group in one run.
+fn add_group(
+    text: &mut String,
+    format: Format,
     figures: &Figures,
     seed: u64,
     group: Group,
-) -> Result<(), PrintStop> {
+) -> Result<(), AllocError> {
     match group.of(figures) {
-        Some(it) => printer.line(&columns(Cell::Number(seed), group, &spread_of(&it))),
+        Some(it) => add_line(
+            text,
+            format,
+            &columns(Cell::Number(seed), group, &spread_of(&it)),
+        ),
         None => Ok(()),
     }
 }
 
-// Writes the line of a group over all runs.
-fn put_spread<K: Sink + Drop>(
+// Adds the line of a group over all runs.
+fn add_spread(
     alloc: Global,
-    printer: &mut Printer<K>,
+    text: &mut String,
+    format: Format,
     all: &[Figures],
     group: Group,
-) -> Result<(), PrintStop> {
+) -> Result<(), AllocError> {
     match spread_over(alloc, all, group)? {
-        Some(spread) => printer.line(&columns(Cell::Word("all"), group, &spread)),
+        Some(spread) => add_line(
+            text,
+            format,
+            &columns(Cell::Word("all"), group, &spread),
+        ),
         None => Ok(()),
     }
 }
 
-/// Writes the lines of a run, behind the names of the columns if the run is the first one.
-pub(crate) fn put_slowdowns<K: Sink + Drop>(
-    printer: &mut Printer<K>,
+/// Adds the names of the columns.
+pub(crate) fn add_slowdown_head(
+    text: &mut String,
+    format: Format,
     figures: &Figures,
-    seed: u64,
-    is_first: bool,
-) -> Result<(), PrintStop> {
-    if is_first {
-        printer.head(&columns(Cell::Number(seed), Group::All, &spread_of(&figures.all)))?;
-    }
-    for part in 0..figures.parts.len() {
-        put_group(printer, figures, seed, Group::Part(part))?;
-    }
-    for group in &OTHERS {
-        put_group(printer, figures, seed, *group)?;
-    }
-    Ok(())
+) -> Result<(), AllocError> {
+    let spread = spread_of(&figures.all);
+    add_head(text, format, &columns(Cell::Empty, Group::All, &spread))
 }
 
-/// Writes the lines over all runs.
-pub(crate) fn put_spreads<K: Sink + Drop>(
+/// Adds the lines of a run.
+pub(crate) fn add_slowdowns(
+    text: &mut String,
+    format: Format,
+    figures: &Figures,
+    seed: u64,
+) -> Result<(), AllocError> {
+    for part in 0..figures.parts.len() {
+        add_group(text, format, figures, seed, Group::Part(part))?;
+    }
+    add_group(text, format, figures, seed, Group::All)?;
+    add_group(text, format, figures, seed, Group::First)?;
+    add_group(text, format, figures, seed, Group::Second)
+}
+
+/// Adds the lines over all runs.
+pub(crate) fn add_spreads(
     alloc: Global,
-    printer: &mut Printer<K>,
+    text: &mut String,
+    format: Format,
     all: &[Figures],
     parts: u32,
-) -> Result<(), PrintStop> {
+) -> Result<(), AllocError> {
     for part in 0..parts as usize {
-        put_spread(alloc, printer, all, Group::Part(part))?;
+        add_spread(alloc, text, format, all, Group::Part(part))?;
     }
-    for group in &OTHERS {
-        put_spread(alloc, printer, all, *group)?;
-    }
-    Ok(())
+    add_spread(alloc, text, format, all, Group::All)?;
+    add_spread(alloc, text, format, all, Group::First)?;
+    add_spread(alloc, text, format, all, Group::Second)
 }

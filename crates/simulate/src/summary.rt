@@ -1,15 +1,12 @@
 // A page for people.
 use crate::cells::{Cell, Thousandths, add_cell};
 use crate::parts::{mean, nanos, part};
-use crate::rows::Printer;
 use crate::slowdown_rows::{Group, Spread, spread_of, spread_over};
-use crate::stop::PrintStop;
 use crate::tally::Tally;
 use crate::totals::{Parts, Queue, passed, span};
 use call_figures::{Figures, Interval};
 use experiment::Experiment;
-use homa_io::Sink;
-use simulated_network::{Outcome, Waits, Window};
+use simulated_network::{RunOutcome, Waits, Window};
 use std::alloc::{AllocError, Global};
 use std::fmt::Write;
 
@@ -62,10 +59,10 @@ fn add_idle(
 fn add_calls(
     text: &mut String,
     experiment: &Experiment,
-    outcome: &Outcome,
+    outcome: &RunOutcome,
 ) -> Result<(), AllocError> {
-    let it = Tally::of(experiment, outcome);
-    let (done, failed, open, resends) = (it.done, it.failed, it.open, it.resends);
+    let it = Tally::of(outcome, outcome.measured(&experiment.load));
+    let (done, failed, open, resends) = (it.done, it.failed, it.still_open, it.resends);
     let (again, bytes) = (it.again, it.bytes);
     let count = u128::from(it.count());
     let (card, output) = (
@@ -120,7 +117,7 @@ fn add_levels(text: &mut String, window: &Window) -> Result<(), AllocError> {
 }
 
 // What became of the packets of the whole run.
-fn add_fates(text: &mut String, outcome: &Outcome) -> Result<(), AllocError> {
+fn add_fates(text: &mut String, outcome: &RunOutcome) -> Result<(), AllocError> {
     let it = &outcome.fates;
     let (sent, repeated, delivered) = (it.sent, it.repeated, it.delivered);
     let (lost, full, old) = (it.lost, it.full, it.old);
@@ -204,94 +201,95 @@ fn add_intervals(
     text.push_str("\n")
 }
 
-// Writes the line of a group in one run.
-fn put_group<K: Sink + Drop>(
+// Adds the line of a group in one run.
+fn add_ranks_of(
     alloc: Global,
-    printer: &mut Printer<K>,
+    text: &mut String,
     figures: &Figures,
     group: Group,
-) -> Result<(), PrintStop> {
-    if let Some(it) = group.of(figures) {
-        add_ranks(alloc, &mut printer.text, group, &spread_of(&it))?;
+) -> Result<(), AllocError> {
+    match group.of(figures) {
+        Some(it) => add_ranks(alloc, text, group, &spread_of(&it)),
+        None => Ok(()),
     }
-    printer.write()
 }
 
-// Writes the line of a group over several runs.
-fn put_spread<K: Sink + Drop>(
+// Adds the line of a group over several runs.
+fn add_intervals_of(
     alloc: Global,
-    printer: &mut Printer<K>,
+    text: &mut String,
     all: &[Figures],
     group: Group,
-) -> Result<(), PrintStop> {
-    if let Some(it) = spread_over(alloc, all, group)? {
-        add_intervals(alloc, &mut printer.text, group, &it)?;
+) -> Result<(), AllocError> {
+    match spread_over(alloc, all, group)? {
+        Some(it) => add_intervals(alloc, text, group, &it),
+        None => Ok(()),
     }
-    printer.write()
 }
 
-// The groups that aren't parts of the lengths.
-const OTHERS: [Group; 3] = [Group::First, Group::Second, Group::All];
-
-// Writes the slowdowns of a run.
-fn put_ranks<K: Sink + Drop>(
-    alloc: Global,
-    printer: &mut Printer<K>,
-    figures: &Figures,
-) -> Result<(), PrintStop> {
-    printer.put("  bytes up to     calls        p50        p99      p99.9  (slowdown)\n")?;
+// Adds the slowdowns of a run.
+fn add_slowdowns(alloc: Global, text: &mut String, figures: &Figures) -> Result<(), AllocError> {
+    text.push_str("  bytes up to     calls        p50        p99      p99.9  (slowdown)\n")?;
     for part in 0..figures.parts.len() {
-        put_group(alloc, printer, figures, Group::Part(part))?;
+        add_ranks_of(alloc, text, figures, Group::Part(part))?;
     }
-    for group in &OTHERS {
-        put_group(alloc, printer, figures, *group)?;
-    }
-    Ok(())
+    add_ranks_of(alloc, text, figures, Group::First)?;
+    add_ranks_of(alloc, text, figures, Group::Second)?;
+    add_ranks_of(alloc, text, figures, Group::All)
 }
 
-/// Writes the page of a run.
-pub(crate) fn put_summary<K: Sink + Drop>(
-    alloc: Global,
-    printer: &mut Printer<K>,
+// Adds what is known of the window.
+fn add_window(
+    text: &mut String,
     experiment: &Experiment,
-    outcome: &Outcome,
-    figures: &Figures,
-    seed: u64,
-) -> Result<(), PrintStop> {
-    let window = &outcome.window;
-    let text = &mut printer.text;
-    let (measured, whole) = (nanos(span(window)), nanos(outcome.ended));
-    writeln!(text, "seed {seed}")?;
-    writeln!(text, " in the window of {measured} ns, from the first measured call until the one behind the last")?;
+    window: &Window,
+) -> Result<(), AllocError> {
+    let span = nanos(span(window));
+    writeln!(
+        text,
+        " in the window of {span} ns, from the first measured call until the one behind the last"
+    )?;
     add_taken(text, experiment, window)?;
     add_idle(text, experiment, window)?;
     add_queue(text, "cards    ", &window.cards, window.links.time)?;
     add_queue(text, "outputs  ", &window.outputs, window.links.time)?;
     add_levels(text, window)?;
     let (packets, cutoffs) = (window.packets, window.cutoffs);
-    writeln!(text, "  packets   {packets}, of which {cutoffs} are CUTOFFS")?;
+    writeln!(text, "  packets   {packets}, of which {cutoffs} are CUTOFFS")
+}
+
+/// Adds the page of a run.
+pub(crate) fn add_summary(
+    alloc: Global,
+    text: &mut String,
+    experiment: &Experiment,
+    outcome: &RunOutcome,
+    figures: &Figures,
+    seed: u64,
+) -> Result<(), AllocError> {
+    writeln!(text, "seed {seed}")?;
+    add_window(text, experiment, &outcome.window)?;
+    let whole = nanos(outcome.ended);
     writeln!(text, " over the whole run of {whole} ns")?;
     add_fates(text, outcome)?;
     writeln!(text, " of the measured calls")?;
     add_calls(text, experiment, outcome)?;
-    printer.write()?;
-    put_ranks(alloc, printer, figures)
+    add_slowdowns(alloc, text, figures)
 }
 
-/// Writes the means over several runs, with their intervals.
-pub(crate) fn put_means<K: Sink + Drop>(
+/// Adds the means over several runs, with their intervals.
+pub(crate) fn add_means(
     alloc: Global,
-    printer: &mut Printer<K>,
+    text: &mut String,
     all: &[Figures],
     parts: u32,
-) -> Result<(), PrintStop> {
-    printer.put("all seeds: slowdowns with 95% intervals\n")?;
-    printer.put("  bytes up to     calls                   p50                   p99                 p99.9\n")?;
+) -> Result<(), AllocError> {
+    text.push_str("all seeds: slowdowns with 95% intervals\n")?;
+    text.push_str("  bytes up to     calls                   p50                   p99                 p99.9\n")?;
     for part in 0..parts as usize {
-        put_spread(alloc, printer, all, Group::Part(part))?;
+        add_intervals_of(alloc, text, all, Group::Part(part))?;
     }
-    for group in &OTHERS {
-        put_spread(alloc, printer, all, *group)?;
-    }
-    Ok(())
+    add_intervals_of(alloc, text, all, Group::First)?;
+    add_intervals_of(alloc, text, all, Group::Second)?;
+    add_intervals_of(alloc, text, all, Group::All)
 }

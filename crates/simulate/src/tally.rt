@@ -1,14 +1,15 @@
 // What the calls that were measured came to.
+ghost use Rattle.std.specs.Prelude.{◌≡◌, ◌+◌, ◌<◌, ◌^◌, length};
+
 use call_figures::{CallEnd, SimCall, Transfer};
-use experiment::Experiment;
-use simulated_network::Outcome;
+use simulated_network::RunOutcome;
 
 /// How the calls that were measured ended, and for how long all of their pieces waited, in picoseconds.
 #[derive(Clone, Copy, Debug, PartialEq, Eq)]
 pub(crate) struct Tally {
     pub(crate) done: u64,
     pub(crate) failed: u64,
-    pub(crate) open: u64,
+    pub(crate) still_open: u64,
     pub(crate) resends: u64,
     /// The bytes of their messages.
     pub(crate) bytes: u64,
@@ -18,6 +19,7 @@ pub(crate) struct Tally {
     pub(crate) at_output: u128,
     pub(crate) for_grant: u128,
     pub(crate) for_credit: u128,
+    ghost few: { done + failed + still_open < 2 ^ 64 },
 }
 
 /// The waits of both messages of a call, in picoseconds.
@@ -32,7 +34,7 @@ pub(crate) struct CallWaits {
 }
 
 // The message of a side of a call; one that isn't known if there is none.
-fn message(outcome: &Outcome, place: u32, is_response: bool) -> Transfer {
+fn message(outcome: &RunOutcome, place: u32, is_response: bool) -> Transfer {
     outcome
         .transfers
         .message(place, is_response)
@@ -40,7 +42,7 @@ fn message(outcome: &Outcome, place: u32, is_response: bool) -> Transfer {
 }
 
 /// The waits of a call's messages.
-pub(crate) fn waits_of(outcome: &Outcome, call: &SimCall) -> CallWaits {
+pub(crate) fn waits_of(outcome: &RunOutcome, call: &SimCall) -> CallWaits {
     let place = outcome.calls.place(call.id).unwrap_or(u32::MAX);
     let (asked, answered) = (
         message(outcome, place, false),
@@ -58,11 +60,13 @@ pub(crate) fn waits_of(outcome: &Outcome, call: &SimCall) -> CallWaits {
 
 impl Tally {
     // No calls.
-    fn none() -> Tally {
+    fn none() -> Tally
+        ensures { result.done + result.failed + result.still_open ≡ 0 }
+    {
         Tally {
             done: 0,
             failed: 0,
-            open: 0,
+            still_open: 0,
             resends: 0,
             bytes: 0,
             again: 0,
@@ -74,17 +78,22 @@ impl Tally {
     }
 
     // One call more that ended so.
-    fn end(&mut self, end: CallEnd) {
-        let count = match end {
-            CallEnd::Open => &mut self.open,
-            CallEnd::Done => &mut self.done,
-            CallEnd::Timeout | CallEnd::Forgotten | CallEnd::Restarted => &mut self.failed,
-        };
-        *count = count.saturating_add(1);
+    fn end(&mut self, end: CallEnd)
+        requires { self.old.done + self.old.failed + self.old.still_open + 1 < 2 ^ 64 }
+        ensures { self.new.done + self.new.failed + self.new.still_open ≡ self.old.done + self.old.failed + self.old.still_open + 1 }
+    {
+        match end {
+            CallEnd::Open => self.still_open += 1,
+            CallEnd::Done => self.done += 1,
+            CallEnd::Timeout | CallEnd::Forgotten | CallEnd::Restarted => self.failed += 1,
+        }
     }
 
     // One call more, with these waits.
-    fn add(&mut self, call: &SimCall, waits: &CallWaits) {
+    fn add(&mut self, call: &SimCall, waits: &CallWaits)
+        requires { self.old.done + self.old.failed + self.old.still_open + 1 < 2 ^ 64 }
+        ensures { self.new.done + self.new.failed + self.new.still_open ≡ self.old.done + self.old.failed + self.old.still_open + 1 }
+    {
         self.end(call.end);
         self.resends = self.resends.saturating_add(u64::from(call.resends));
         let bytes = u64::from(call.request) + u64::from(waits.response);
@@ -96,19 +105,21 @@ impl Tally {
         self.for_credit = self.for_credit.saturating_add(u128::from(waits.for_credit));
     }
 
-    /// Of the calls that were measured in a run.
-    pub(crate) fn of(experiment: &Experiment, outcome: &Outcome) -> Tally {
+    /// That of these calls of a run.
+    pub(crate) fn of(outcome: &RunOutcome, calls: &[SimCall]) -> Tally
+        ensures { result.done + result.failed + result.still_open ≡ length calls.now }
+    {
         let mut tally = Tally::none();
-        for call in outcome.measured(&experiment.load) {
+        for call in calls {
             tally.add(call, &waits_of(outcome, call));
         }
         tally
     }
 
     /// How many calls there are.
-    pub(crate) fn count(&self) -> u64 {
-        self.done
-            .saturating_add(self.failed)
-            .saturating_add(self.open)
+    pub(crate) fn count(&self) -> u64
+        ensures { result ≡ self.now.done + self.now.failed + self.now.still_open }
+    {
+        self.done + self.failed + self.still_open
     }
 }

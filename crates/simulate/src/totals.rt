@@ -1,12 +1,15 @@
 // What was counted in a run.
+ghost use Rattle.std.specs.Prelude.{◌≡◌, IfOk};
+ghost use Rattle.simulate.specs.Rows.{names};
+ghost use Rattle.simulate.specs.Columns.{taken_names, ended_names, fates_names, queues_names, most_names, means_names, shares_names};
+ghost use Rattle.simulate.specs.Columns.{waits_names, totals_names};
 use crate::cells::Cell;
 use crate::parts::{mean, nanos, part};
-use crate::rows::{Column, Printer, named};
-use crate::stop::PrintStop;
+use crate::rows::{Column, add_head, add_line, named};
 use crate::tally::Tally;
+use crate::words::Format;
 use experiment::Experiment;
-use homa_io::Sink;
-use simulated_network::{LinkUse, Outcome, Waits, Window};
+use simulated_network::{LinkUse, RunOutcome, Waits, Window};
 use std::alloc::{AllocError, Global};
 
 /// What waited at all cards, or at all outputs: the most bytes at one of them; the mean of the bytes at one, by their sum
@@ -87,7 +90,9 @@ impl Parts {
 }
 
 // The window, and what of the links was asked, offered and taken.
-fn taken(experiment: &Experiment, outcome: &Outcome, seed: u64) -> [Column; 17] {
+fn taken(experiment: &Experiment, outcome: &RunOutcome, seed: u64) -> [Column; 17]
+    ensures { names result ≡ taken_names }
+{
     let window = &outcome.window;
     let parts = Parts::of(experiment, window);
     let load = u64::from(experiment.load.load);
@@ -113,11 +118,13 @@ fn taken(experiment: &Experiment, outcome: &Outcome, seed: u64) -> [Column; 17] 
 }
 
 // How the calls that were measured ended, and the packets of the window.
-fn ended(tally: &Tally, window: &Window) -> [Column; 8] {
+fn ended(tally: &Tally, window: &Window) -> [Column; 8]
+    ensures { names result ≡ ended_names }
+{
     [
         named("done", Cell::Number(tally.done)),
         named("failed", Cell::Number(tally.failed)),
-        named("open", Cell::Number(tally.open)),
+        named("open", Cell::Number(tally.still_open)),
         named("resends", Cell::Number(tally.resends)),
         named("again_bytes", Cell::Number(tally.again)),
         named("bytes", Cell::Number(tally.bytes)),
@@ -127,7 +134,9 @@ fn ended(tally: &Tally, window: &Window) -> [Column; 8] {
 }
 
 // What became of the packets of the whole run, and what went wrong in it.
-fn fates(outcome: &Outcome) -> [Column; 12] {
+fn fates(outcome: &RunOutcome) -> [Column; 12]
+    ensures { names result ≡ fates_names }
+{
     let (fates, trouble) = (&outcome.fates, &outcome.trouble);
     [
         named("sent", Cell::Number(fates.sent)),
@@ -146,7 +155,9 @@ fn fates(outcome: &Outcome) -> [Column; 12] {
 }
 
 // What waited at cards and outputs.
-fn queues(window: &Window) -> [Column; 8] {
+fn queues(window: &Window) -> [Column; 8]
+    ensures { names result ≡ queues_names }
+{
     let cards = Queue::of(&window.cards, window.links.time);
     let outputs = Queue::of(&window.outputs, window.links.time);
     [
@@ -162,7 +173,9 @@ fn queues(window: &Window) -> [Column; 8] {
 }
 
 // The most bytes that waited at an output, by level.
-fn most(window: &Window) -> [Column; 8] {
+fn most(window: &Window) -> [Column; 8]
+    ensures { names result ≡ most_names }
+{
     let most = |level: usize| Cell::Number(window.levels[level].most);
     [
         named("most0", most(0)),
@@ -177,7 +190,9 @@ fn most(window: &Window) -> [Column; 8] {
 }
 
 // The mean of the bytes that waited at an output, by level.
-fn means(window: &Window) -> [Column; 8] {
+fn means(window: &Window) -> [Column; 8]
+    ensures { names result ≡ means_names }
+{
     let mean = |level: usize| Cell::Number(mean(window.levels[level].area, window.links.time));
     [
         named("mean0", mean(0)),
@@ -201,7 +216,9 @@ pub(crate) fn passed(window: &Window) -> u128 {
 }
 
 // Each level's share of the bytes that left outputs.
-fn shares(window: &Window) -> [Column; 8] {
+fn shares(window: &Window) -> [Column; 8]
+    ensures { names result ≡ shares_names }
+{
     let all = passed(window);
     let share = |level: usize| Cell::Thousandths(part(u128::from(window.levels[level].passed), all));
     [
@@ -218,7 +235,9 @@ fn shares(window: &Window) -> [Column; 8] {
 
 // The mean waits of a call that was measured, in nanoseconds: all of its pieces together in cards and at outputs, and its
 // messages for grants and for credit.
-fn waits(tally: &Tally) -> [Column; 4] {
+fn waits(tally: &Tally) -> [Column; 4]
+    ensures { names result ≡ waits_names }
+{
     let count = u128::from(tally.count());
     let wait = |sum: u128| Cell::Number(nanos(mean(sum, count)));
     [
@@ -229,16 +248,18 @@ fn waits(tally: &Tally) -> [Column; 4] {
     ]
 }
 
-/// The columns of a run.
+// The columns of a run.
 fn columns(
     alloc: Global,
     experiment: &Experiment,
-    outcome: &Outcome,
+    outcome: &RunOutcome,
     seed: u64,
-) -> Result<Vec<Column>, AllocError> {
+) -> Result<Vec<Column>, AllocError>
+    ensures { IfOk result (λ columns. names columns.items ≡ totals_names) }
+{
     let window = &outcome.window;
-    let tally = Tally::of(experiment, outcome);
-    let mut columns = Vec::with_capacity(alloc, 81)?;
+    let tally = Tally::of(outcome, outcome.measured(&experiment.load));
+    let mut columns = Vec::with_capacity(alloc, 73)?;
     columns.extend_from_slice(&taken(experiment, outcome, seed))?;
     columns.extend_from_slice(&ended(&tally, window))?;
     columns.extend_from_slice(&fates(outcome))?;
@@ -250,18 +271,19 @@ fn columns(
     Ok(columns)
 }
 
-/// Writes the line of a run, behind the names of the columns if the run is the first one.
-pub(crate) fn put_totals<K: Sink + Drop>(
+/// Adds the line of a run, behind the names of the columns if the run is the first one.
+pub(crate) fn add_totals(
     alloc: Global,
-    printer: &mut Printer<K>,
+    text: &mut String,
+    format: Format,
     experiment: &Experiment,
-    outcome: &Outcome,
+    outcome: &RunOutcome,
     seed: u64,
     is_first: bool,
-) -> Result<(), PrintStop> {
+) -> Result<(), AllocError> {
     let columns = columns(alloc, experiment, outcome, seed)?;
     if is_first {
-        printer.head(&columns)?;
+        add_head(text, format, &columns)?;
     }
-    printer.line(&columns)
+    add_line(text, format, &columns)
 }

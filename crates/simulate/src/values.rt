@@ -1,11 +1,9 @@
 // All values of an experiment, as its lines.
-use crate::rows::Printer;
-use crate::stop::PrintStop;
+use crate::warnings::Warning;
 use crate::words::Format;
-use experiment::{Amount, Card, Experiment, Step};
-use homa_io::Sink;
+use experiment::{Amount, Card, Experiment, ListedCall, Step};
 use homa_plain::Name;
-use std::alloc::AllocError;
+use std::alloc::{AllocError, Global};
 use std::fmt::Write;
 
 // The word of a setting of the hosts.
@@ -40,56 +38,54 @@ fn card_word(card: Card) -> &'static str {
 
 // The lines of an experiment, as comments of CSV or as texts of JSON.
 #[derive(Drop)]
-struct Lines<'a, K> {
-    printer: &'a mut Printer<K>,
+struct Lines {
+    text: String,
+    format: Format,
     is_first: bool,
 }
 
-impl<K: Sink + Drop> Lines<'_, K> {
+impl Lines {
     // What stands before a line.
     fn begin(&mut self) -> Result<(), AllocError> {
-        let text = &mut self.printer.text;
-        match (self.printer.format, self.is_first) {
-            (Format::Csv, _) => text.push_str("# "),
-            (Format::Json, true) => text.push_str("\""),
-            (Format::Json, false) => text.push_str(",\""),
+        match (self.format, self.is_first) {
+            (Format::Csv, _) => self.text.push_str("# "),
+            (Format::Json, true) => self.text.push_str("\""),
+            (Format::Json, false) => self.text.push_str(",\""),
         }
     }
 
-    // What stands behind a line, which is written.
-    fn end(&mut self) -> Result<(), PrintStop> {
-        let text = &mut self.printer.text;
-        match self.printer.format {
-            Format::Csv => text.push_str("\n")?,
-            Format::Json => text.push_str("\"")?,
-        }
+    // What stands behind a line.
+    fn end(&mut self) -> Result<(), AllocError> {
         self.is_first = false;
-        self.printer.write()
+        match self.format {
+            Format::Csv => self.text.push_str("\n"),
+            Format::Json => self.text.push_str("\""),
+        }
     }
 
     // A line of a word and a number.
-    fn number(&mut self, word: &str, n: u64) -> Result<(), PrintStop> {
+    fn number(&mut self, word: &str, n: u64) -> Result<(), AllocError> {
         self.begin()?;
-        write!(self.printer.text, "{word} {n}")?;
+        write!(self.text, "{word} {n}")?;
         self.end()
     }
 
     // A line of a word and two numbers.
-    fn two(&mut self, word: &str, a: u64, b: u64) -> Result<(), PrintStop> {
+    fn two(&mut self, word: &str, a: u64, b: u64) -> Result<(), AllocError> {
         self.begin()?;
-        write!(self.printer.text, "{word} {a} {b}")?;
+        write!(self.text, "{word} {a} {b}")?;
         self.end()
     }
 
     // A line of a word and three numbers.
-    fn three(&mut self, word: &str, a: u64, b: u64, c: u64) -> Result<(), PrintStop> {
+    fn three(&mut self, word: &str, a: u64, b: u64, c: u64) -> Result<(), AllocError> {
         self.begin()?;
-        write!(self.printer.text, "{word} {a} {b} {c}")?;
+        write!(self.text, "{word} {a} {b} {c}")?;
         self.end()
     }
 
     // The settings of the hosts.
-    fn settings(&mut self, experiment: &Experiment) -> Result<(), PrintStop> {
+    fn settings(&mut self, experiment: &Experiment) -> Result<(), AllocError> {
         for name in &Name::ALL {
             let n = experiment.settings.get(*name);
             self.number(setting_word(*name), u64::from(n))?;
@@ -98,7 +94,7 @@ impl<K: Sink + Drop> Lines<'_, K> {
     }
 
     // The amounts of network and load.
-    fn amounts(&mut self, experiment: &Experiment) -> Result<(), PrintStop> {
+    fn amounts(&mut self, experiment: &Experiment) -> Result<(), AllocError> {
         for amount in &Amount::ALL {
             let n = amount.value(&experiment.network, &experiment.load);
             self.number(amount.word(), n)?;
@@ -107,10 +103,10 @@ impl<K: Sink + Drop> Lines<'_, K> {
     }
 
     // The card, and the server to which more calls go.
-    fn words(&mut self, experiment: &Experiment) -> Result<(), PrintStop> {
+    fn words(&mut self, experiment: &Experiment) -> Result<(), AllocError> {
         self.begin()?;
         let card = card_word(experiment.network.card);
-        write!(self.printer.text, "card {card}")?;
+        write!(self.text, "card {card}")?;
         self.end()?;
         match experiment.load.hot {
             Some(hot) => self.two("hot", u64::from(hot.host.0), u64::from(hot.share)),
@@ -118,8 +114,8 @@ impl<K: Sink + Drop> Lines<'_, K> {
         }
     }
 
-    // A step of a table of one's own, above which another one ends.
-    fn step(&mut self, step: &Step, above: u32) -> Result<(), PrintStop> {
+    // A step of a table of one's own. Where the one before ends at another length, this one has one length.
+    fn step(&mut self, step: &Step, above: u32) -> Result<(), AllocError> {
         let word = if step.above == above {
             "size"
         } else {
@@ -129,7 +125,7 @@ impl<K: Sink + Drop> Lines<'_, K> {
     }
 
     // The lengths.
-    fn lengths(&mut self, experiment: &Experiment) -> Result<(), PrintStop> {
+    fn lengths(&mut self, experiment: &Experiment) -> Result<(), AllocError> {
         if let Some(number) = experiment.numbered {
             return self.number("workload", u64::from(number));
         }
@@ -141,23 +137,25 @@ impl<K: Sink + Drop> Lines<'_, K> {
         Ok(())
     }
 
+    // A call of a list.
+    fn call(&mut self, call: &ListedCall) -> Result<(), AllocError> {
+        let (client, server) = (call.client.0, call.server.0);
+        let (bytes, at) = (call.bytes, call.at / 1000);
+        self.begin()?;
+        write!(self.text, "call {client} {server} {bytes} {at}")?;
+        self.end()
+    }
+
     // The calls of a list.
-    fn listed(&mut self, experiment: &Experiment) -> Result<(), PrintStop> {
+    fn listed(&mut self, experiment: &Experiment) -> Result<(), AllocError> {
         for call in &experiment.listed {
-            let (client, server) = (call.client.0, call.server.0);
-            let (bytes, at) = (call.bytes, call.at / 1000);
-            self.begin()?;
-            write!(
-                self.printer.text,
-                "call {client} {server} {bytes} {at}"
-            )?;
-            self.end()?;
+            self.call(call)?;
         }
         Ok(())
     }
 
     // The restarts.
-    fn restarts(&mut self, experiment: &Experiment) -> Result<(), PrintStop> {
+    fn restarts(&mut self, experiment: &Experiment) -> Result<(), AllocError> {
         for restart in &experiment.restarts {
             self.two("restart", u64::from(restart.host.0), restart.at / 1000)?;
         }
@@ -165,7 +163,7 @@ impl<K: Sink + Drop> Lines<'_, K> {
     }
 
     // The datagrams that come from nowhere.
-    fn injections(&mut self, experiment: &Experiment) -> Result<(), PrintStop> {
+    fn injections(&mut self, experiment: &Experiment) -> Result<(), AllocError> {
         for it in &experiment.injections {
             let (host, bytes) = (u64::from(it.host.0), u64::from(it.bytes));
             self.three("inject", host, bytes, it.at / 1000)?;
@@ -174,45 +172,55 @@ impl<K: Sink + Drop> Lines<'_, K> {
     }
 
     // The clocks that are set.
-    fn shifts(&mut self, experiment: &Experiment) -> Result<(), PrintStop> {
+    fn shifts(&mut self, experiment: &Experiment) -> Result<(), AllocError> {
         for it in &experiment.shifts {
             let (host, ticks) = (u64::from(it.host.0), u64::from(it.ticks));
             self.three("shift", host, ticks, it.at / 1000)?;
         }
         Ok(())
     }
+
+    // All lines.
+    fn all(&mut self, experiment: &Experiment) -> Result<(), AllocError> {
+        self.settings(experiment)?;
+        self.amounts(experiment)?;
+        self.words(experiment)?;
+        self.lengths(experiment)?;
+        self.restarts(experiment)?;
+        self.listed(experiment)?;
+        self.injections(experiment)?;
+        self.shifts(experiment)
+    }
 }
 
-// Writes the lines of an experiment.
-fn put_lines<K: Sink + Drop>(
-    printer: &mut Printer<K>,
-    experiment: &Experiment,
-) -> Result<(), PrintStop> {
+// Adds the lines behind which notes stand.
+fn lines_of(alloc: Global, format: Format, experiment: &Experiment) -> Result<String, AllocError> {
     let mut lines = Lines {
-        printer,
+        text: String::new(alloc),
+        format,
         is_first: true,
     };
-    lines.settings(experiment)?;
-    lines.amounts(experiment)?;
-    lines.words(experiment)?;
-    lines.lengths(experiment)?;
-    lines.restarts(experiment)?;
-    lines.listed(experiment)?;
-    lines.injections(experiment)?;
-    lines.shifts(experiment)
+    lines.all(experiment)?;
+    let Lines { text, .. } = lines;
+    Ok(text)
 }
 
-/// Writes all values of an experiment: in CSV each line of its text behind `# `, in JSON one object with an array of the lines.
-pub(crate) fn put_values<K: Sink + Drop>(
-    printer: &mut Printer<K>,
+/// All values of an experiment, with a note if there is one. In CSV each line of the experiment's text stands behind `# `, and the
+/// note behind `## `. In JSON this is one object, with an array of the lines and one of notes.
+pub(crate) fn values(
+    alloc: Global,
+    format: Format,
     experiment: &Experiment,
-) -> Result<(), PrintStop> {
-    match printer.format {
-        Format::Csv => put_lines(printer, experiment),
-        Format::Json => {
-            printer.put("{\"experiment\":[")?;
-            put_lines(printer, experiment)?;
-            printer.put("]}\n")
+    note: Option<Warning>,
+) -> Result<String, AllocError> {
+    let lines = lines_of(alloc, format, experiment)?;
+    let lines = lines.as_str();
+    match (format, note) {
+        (Format::Csv, None) => format!(in alloc; "{lines}"),
+        (Format::Csv, Some(note)) => format!(in alloc; "{lines}## {note}\n"),
+        (Format::Json, None) => format!(in alloc; "{{\"experiment\":[{lines}],\"notes\":[]}}\n"),
+        (Format::Json, Some(note)) => {
+            format!(in alloc; "{{\"experiment\":[{lines}],\"notes\":[\"{note}\"]}}\n")
         }
     }
 }

@@ -1,4 +1,7 @@
 // What a reader of figures has to know before they are believed.
+ghost use Rattle.std.specs.Prelude.{◌≡◌, ◌<◌, ◌*◌, ◌↔◌, IsSome, IsTrue};
+ghost use Rattle.std.specs.Option.{option_map};
+ghost use Rattle.simulate.specs.Warnings.{carried, are_apart};
 use crate::cells::Thousandths;
 use crate::slowdown_rows::{Group, spread_over};
 use call_figures::{Figures, Interval, Rank};
@@ -52,22 +55,29 @@ impl fmt::Display for Warning {
 }
 
 /// That the lengths are from memory, if they are.
-pub(crate) fn from_memory(experiment: &Experiment) -> Option<Warning> {
-    experiment.numbered.map(|number| Warning::FromMemory(number))
+pub(crate) fn from_memory(experiment: &Experiment) -> Option<Warning>
+    ensures { result ≡ option_map (λ number. Warning.FromMemory number) experiment.now.numbered }
+{
+    match experiment.numbered {
+        Some(number) => Some(Warning::FromMemory(number)),
+        None => None,
+    }
 }
 
 // How many bytes of payload a link carries in a tick, in full frames.
-fn carried(experiment: &Experiment) -> u64 {
+fn carried(experiment: &Experiment) -> u64
+    ensures { result ≡ carried experiment.now }
+{
     let network = &experiment.network;
     let framing = Framing::new(&experiment.settings, network.overhead);
     let seg = experiment.settings.seg;
-    let bytes = network.tick / network.byte;
-    let payload = u128::from(bytes) * u128::from(seg) / u128::from(framing.wire(seg).max(1));
-    payload.min(u128::from(u64::MAX)) as u64
+    network.tick / network.byte * u64::from(seg) / framing.wire(seg).max(1)
 }
 
 /// That `rate` is above what a link carries in a tick, if it is.
-pub(crate) fn rate_over_link(experiment: &Experiment) -> Option<Warning> {
+pub(crate) fn rate_over_link(experiment: &Experiment) -> Option<Warning>
+    ensures { IsSome result ↔ (carried experiment.now < experiment.now.settings.rate) }
+{
     let (rate, carries) = (experiment.settings.rate, carried(experiment));
     if u64::from(rate) > carries {
         Some(Warning::RateOverLink { rate, carries })
@@ -77,7 +87,9 @@ pub(crate) fn rate_over_link(experiment: &Experiment) -> Option<Warning> {
 }
 
 /// That more than a tenth of the packets of a window are CUTOFFS, if they are.
-pub(crate) fn many_cutoffs(seed: u64, window: &Window) -> Option<Warning> {
+pub(crate) fn many_cutoffs(seed: u64, window: &Window) -> Option<Warning>
+    ensures { IsSome result ↔ (window.now.packets < window.now.cutoffs * 10) }
+{
     let (cutoffs, packets) = (window.cutoffs, window.packets);
     if u128::from(cutoffs) * 10 > u128::from(packets) {
         Some(Warning::Cutoffs {
@@ -90,8 +102,10 @@ pub(crate) fn many_cutoffs(seed: u64, window: &Window) -> Option<Warning> {
     }
 }
 
-// That two means are further apart than both of their intervals reach.
-fn apart(rank: &'static str, first: &Interval, second: &Interval) -> Option<Warning> {
+// That two means are further apart than both of their intervals reach, if they are.
+fn apart(rank: &'static str, first: &Interval, second: &Interval) -> Option<Warning>
+    ensures { IsSome result ↔ IsTrue (are_apart first.now.mean first.now.off second.now.mean second.now.off) }
+{
     let (Rank::At(a), Rank::At(b)) = (first.mean, second.mean) else {
         return None;
     };

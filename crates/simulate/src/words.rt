@@ -1,4 +1,6 @@
 // The words of a command line.
+ghost use Rattle.std.specs.Prelude.{◌≡◌};
+ghost use Rattle.simulate.specs.Words.{meaning_of, has_columns, form_of, asked_for, answer_to, step, command_line};
 
 /// What is printed of the runs.
 #[derive(Clone, Copy, Debug, PartialEq, Eq)]
@@ -54,7 +56,7 @@ pub(crate) enum CommandLine {
 }
 
 // What the words so far say.
-#[derive(Clone, Copy)]
+#[derive(Clone, Copy, Debug, PartialEq, Eq)]
 struct Said {
     report: Option<Report>,
     is_json: bool,
@@ -62,87 +64,102 @@ struct Said {
 }
 
 // What a word says.
-#[derive(Clone, Copy)]
-enum Option1 {
-    Report(Report),
+#[derive(Clone, Copy, Debug, PartialEq, Eq)]
+enum Meaning {
+    Print(Report),
     Json,
     Progress,
+    Help,
 }
 
 // What a word says, if it is one of those that there are.
-fn meaning(word: &str) -> Option<Option1> {
+fn meaning_of(word: &str) -> Option<Meaning>
+    ensures { result ≡ meaning_of word.now }
+{
     match word {
-        "summary" => Some(Option1::Report(Report::Summary)),
-        "figures" => Some(Option1::Report(Report::Figures)),
-        "totals" => Some(Option1::Report(Report::Totals)),
-        "calls" => Some(Option1::Report(Report::Calls)),
-        "schedule" => Some(Option1::Report(Report::Schedule)),
-        "--json" => Some(Option1::Json),
-        "--progress" => Some(Option1::Progress),
+        "summary" => Some(Meaning::Print(Report::Summary)),
+        "figures" => Some(Meaning::Print(Report::Figures)),
+        "totals" => Some(Meaning::Print(Report::Totals)),
+        "calls" => Some(Meaning::Print(Report::Calls)),
+        "schedule" => Some(Meaning::Print(Report::Schedule)),
+        "--json" => Some(Meaning::Json),
+        "--progress" => Some(Meaning::Progress),
+        "--help" => Some(Meaning::Help),
         _ => None,
     }
 }
 
-impl Said {
-    // One word more; false if it was said already.
-    fn add(&mut self, word: Option1) -> bool {
-        match word {
-            Option1::Report(report) => {
-                let is_first = self.report.is_none();
-                self.report = Some(report);
-                is_first
-            }
-            Option1::Json => {
-                let is_first = !self.is_json;
-                self.is_json = true;
-                is_first
-            }
-            Option1::Progress => {
-                let is_first = !self.tells_progress;
-                self.tells_progress = true;
-                is_first
-            }
-        }
-    }
-
-    // What all words say.
-    fn asked(self) -> CommandLine {
-        let Some(report) = self.report else {
-            return CommandLine::Wrong(WordFault::Missing);
-        };
-        if self.is_json && matches!(report, Report::Summary | Report::Schedule) {
-            return CommandLine::Wrong(WordFault::NoColumns);
-        }
-        let format = if self.is_json {
-            Format::Json
-        } else {
-            Format::Csv
-        };
-        CommandLine::Ask(Asked {
-            report,
-            format,
-            tells_progress: self.tells_progress,
-        })
+// Whether a report has columns.
+fn has_columns(report: Report) -> bool
+    ensures { result ≡ has_columns report }
+{
+    match report {
+        Report::Summary | Report::Schedule => false,
+        Report::Figures | Report::Totals | Report::Calls => true,
     }
 }
 
+// The form of lines.
+fn form_of(is_json: bool) -> Format
+    ensures { result ≡ form_of is_json }
+{
+    if is_json { Format::Json } else { Format::Csv }
+}
+
+// What is asked where this report was said.
+fn asked_for(said: Said, report: Report) -> CommandLine
+    ensures { result ≡ asked_for said report }
+{
+    if said.is_json && !has_columns(report) {
+        return CommandLine::Wrong(WordFault::NoColumns);
+    }
+    CommandLine::Ask(Asked {
+        report,
+        format: form_of(said.is_json),
+        tells_progress: said.tells_progress,
+    })
+}
+
+// What is asked where this was said.
+fn answer_to(said: Said) -> CommandLine
+    ensures { result ≡ answer_to said }
+{
+    match said.report {
+        None => CommandLine::Wrong(WordFault::Missing),
+        Some(report) => asked_for(said, report),
+    }
+}
+
+// What is said with one word more, behind so many others; or what the command line says, if the word ends it.
+fn step(said: Said, at: usize, word: Option<Meaning>) -> Result<Said, CommandLine>
+    ensures { result ≡ step said at word }
+{
+    let mut next = said;
+    match word {
+        None => return Err(CommandLine::Wrong(WordFault::Unknown(at))),
+        Some(Meaning::Help) => return Err(CommandLine::Help),
+        Some(Meaning::Json) if !said.is_json => next.is_json = true,
+        Some(Meaning::Progress) if !said.tells_progress => next.tells_progress = true,
+        Some(Meaning::Print(report)) if said.report.is_none() => next.report = Some(report),
+        Some(_) => return Err(CommandLine::Wrong(WordFault::Twice(at))),
+    }
+    Ok(next)
+}
+
 /// What the words of a command line say, which stand behind the program's name.
-pub(crate) fn read_words(words: &[&str]) -> CommandLine {
+pub(crate) fn read_words(words: &[&str]) -> CommandLine
+    ensures { result ≡ command_line words.now }
+{
     let mut said = Said {
         report: None,
         is_json: false,
         tells_progress: false,
     };
     for (at, word) in words.iter().enumerate() {
-        if *word == "--help" {
-            return CommandLine::Help;
-        }
-        let Some(meaning) = meaning(word) else {
-            return CommandLine::Wrong(WordFault::Unknown(at));
-        };
-        if !said.add(meaning) {
-            return CommandLine::Wrong(WordFault::Twice(at));
+        match step(said, at, meaning_of(word)) {
+            Ok(next) => said = next,
+            Err(answer) => return answer,
         }
     }
-    said.asked()
+    answer_to(said)
 }
