@@ -5,6 +5,7 @@ import re
 import subprocess
 import tempfile
 
+from simulated import BUSY, MIXED, simulated
 from testing import TOP, Skipped
 
 from nodes import PROGRAM, free_ports, knows, script_of
@@ -91,9 +92,6 @@ deliver 1
 deliver 8
 tick 4
 """
-RESTARTS = "--hosts 5 --calls 60 --loss 0.1 --repeat 0.05 --jitter 6 --restart 2@60 --restart 0@90".split()
-BUSY = "overcommit=2 rebalance=8 resend=20 tries=8 life=200 served=20".split()
-
 
 def read(*names):
     with open(os.path.join(TOP, *names), encoding="utf-8") as it:
@@ -120,9 +118,9 @@ def made(seed, calls):
     )
 
 
-def network(*words):
-    command = [f"{TOP}/tools/drive-network", "--homa", PROGRAM, *words]
-    return thinned(subprocess.run(command, capture_output=True, text=True, check=True).stdout)
+def network(*lines):
+    """The trace of an experiment, thinned."""
+    return thinned(simulated(*lines))
 
 
 def node_of_two(calls, size):
@@ -148,11 +146,11 @@ KEPT = {
 }
 MADE = {
     "generated": lambda: made(7, 300),
-    "usual": lambda: network("overcommit=4", "--calls", "400"),
-    "restarts": lambda: network(*BUSY, *RESTARTS),
-    "version 2": lambda: network("wire=2", "skew=3", *BUSY, *RESTARTS),
+    "usual": lambda: network(*MIXED, "hosts 8", "measure 300"),
+    "restarts": lambda: network(*MIXED, *BUSY, "measure 60"),
+    "version 2": lambda: network(*MIXED, *BUSY, "measure 60", "wire 2", "skew 3"),
     "full": lambda: replayed(FULL),
-    "gaps": lambda: network(*"seg=20 resend=20 --hosts 3 --calls 12 --loss 0.2 --jitter 9 --ticks 400".split()),
+    "gaps": lambda: network(*MIXED, "hosts 3", "seg 20", "resend 20", "loss 200000", "jitter 22500", "load 50", "measure 12"),
     "two processes": lambda: node_of_two(20, 20000),
 }
 

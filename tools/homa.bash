@@ -1,4 +1,4 @@
-# Completion of `homa` for bash: its commands, and what each takes. A release installs it; in a checkout:
+# Completion of `homa` and `homa-simulate` for bash: their commands, and what each takes. A release installs it; in a checkout:
 #     source tools/homa.bash
 _homa_is_checkout() {
     local homa
@@ -31,4 +31,20 @@ _homa() {
     quiet:2 | quiet:3) COMPREPLY=("BYTES: 1 to 1000000" " ") ;;
     esac
 }
+_homa_simulate() {
+    local word=${COMP_WORDS[COMP_CWORD]} at=$COMP_CWORD
+    local words="summary figures totals calls schedule --json --progress" options="--help --version --which --proved"
+    COMPREPLY=()
+    case ${COMP_WORDS[at - 1]} in
+    '<' | '>' | '>>' | '2>') # a file follows
+        mapfile -t COMPREPLY < <(compgen -f -- "$word")
+        return ;;
+    esac
+    if [ "$at" -eq 1 ]; then
+        words+=" $options"
+        ! _homa_is_checkout "${COMP_WORDS[0]}" || words+=" --prove"
+    fi
+    mapfile -t COMPREPLY < <(compgen -W "$words" -- "$word")
+}
 complete -F _homa homa ./homa
+complete -F _homa_simulate homa-simulate ./homa-simulate
