@@ -5,7 +5,7 @@ import re
 import subprocess
 import tempfile
 
-from testing import TOP, Skipped
+from testing import PYTHON, TOP, Skipped
 
 from nodes import PROGRAM, free_ports, knows, script_of
 
@@ -121,7 +121,7 @@ def made(seed, calls):
 
 
 def network(*words):
-    command = [f"{TOP}/tools/drive-network", "--homa", PROGRAM, *words]
+    command = [*PYTHON, f"{TOP}/tools/drive-network", "--homa", PROGRAM, *words]
     return thinned(subprocess.run(command, capture_output=True, text=True, check=True).stdout)
 
 
