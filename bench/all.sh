@@ -7,6 +7,9 @@
 # (/usr/bin/time).
 # From the top, with the program of ./homa, HOMA or PROGRAM: bench/all.sh [MOST [PROGRAM]]   (MOST: the most events and calls, 100000)
 set -eu
+case ${1-} in
+-h | --help) sed -n '2,/^set/s/^# \{0,1\}//p' "$0"; exit 0 ;;
+esac
 cd "$(dirname "$0")/.."
 python3 - "${1:-100000}" "${2:-${HOMA:-$("$PWD/homa" --which)}}" <<'P'
 import os, re, subprocess, sys, tempfile

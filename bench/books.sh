@@ -2,8 +2,12 @@
 # Times a round of one question and one change over homa_grants (`choose`) and homa_timers (`due`), at 10, 100 and 1,000
 # rows, and prints the ratios: about those of the logarithms, 2 and 1.5, or less. A walk over all rows would make each 10.
 # Filling the book alone is timed too, and taken off. From the top: bench/books.sh [ROUNDS], at most 1000000
+# Before it measures, `rt run` proves and builds crates/bench_books and all crates below it: an hour if none is proved yet.
 set -eu
-case ${1-1} in *[!0-9]* | "") echo "books.sh: a number is wanted, not '$1'" >&2; exit 2 ;; esac
+case ${1-1} in
+-h | --help) sed -n '2,/^set/s/^# \{0,1\}//p' "$0"; exit 0 ;;
+*[!0-9]* | "") echo "books.sh: a number is wanted, not '$1'" >&2; exit 2 ;;
+esac
 cd "$(dirname "$0")/../crates/bench_books"
 rt run -- both 4 4 > /dev/null
 python3 - "${1:-1000000}" <<'P'

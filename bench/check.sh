@@ -4,7 +4,10 @@
 # trace is; memory may grow with the calls and packets that lines name. It needs GNU time (/usr/bin/time). From the top, with
 # the program built (./homa): bench/check.sh [LINES]
 set -eu
-case ${1-1} in *[!0-9]* | "") echo "check.sh: a number is wanted, not '$1'" >&2; exit 2 ;; esac
+case ${1-1} in
+-h | --help) sed -n '2,/^set/s/^# \{0,1\}//p' "$0"; exit 0 ;;
+*[!0-9]* | "") echo "check.sh: a number is wanted, not '$1'" >&2; exit 2 ;;
+esac
 cd "$(dirname "$0")/.."
 export HOMA="${HOMA:-$("$PWD/homa" --which)}"
 python3 - "${1:-1000000}" <<'P'

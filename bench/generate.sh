@@ -3,7 +3,10 @@
 # processor time a call, less that of a run of one call, and the most memory. Flat means that no call costs more the longer a
 # run is. It needs GNU time (/usr/bin/time). From the top, with the program built (./homa): bench/generate.sh [SEED]
 set -eu
-case ${1-1} in *[!0-9]* | "") echo "generate.sh: a number is wanted, not '$1'" >&2; exit 2 ;; esac
+case ${1-1} in
+-h | --help) sed -n '2,/^set/s/^# \{0,1\}//p' "$0"; exit 0 ;;
+*[!0-9]* | "") echo "generate.sh: a number is wanted, not '$1'" >&2; exit 2 ;;
+esac
 cd "$(dirname "$0")/.."
 export HOMA="${HOMA:-$("$PWD/homa" --which)}"
 python3 - "${1:-7}" <<'P'

@@ -1,8 +1,12 @@
 #!/usr/bin/env bash
 # Times 1,000,000 changes of a heap of 8192 slots over place_heap, beside the same changes over std's BTreeMap, and
 # prints the ratio. Reading the changes alone is timed too, and taken off both. From the top: bench/heap.sh [CHANGES]
+# Before it measures, `rt run` proves and builds crates/bench_heap and all crates below it: an hour if none is proved yet.
 set -eu
-case ${1-1} in *[!0-9]* | "") echo "heap.sh: a number is wanted, not '$1'" >&2; exit 2 ;; esac
+case ${1-1} in
+-h | --help) sed -n '2,/^set/s/^# \{0,1\}//p' "$0"; exit 0 ;;
+*[!0-9]* | "") echo "heap.sh: a number is wanted, not '$1'" >&2; exit 2 ;;
+esac
 cd "$(dirname "$0")/../crates/bench_heap"
 rt run -- heap < stdin > /dev/null
 mix=$(mktemp)

@@ -4,8 +4,12 @@
 # and 1.5, and a walk over all rows would make each 10. What is timed with a delivery: its frame is put together, and the
 # packets and bytes that were sent are counted. `done` is a delivery and a call: the oldest row goes and a new one is made,
 # so the index of the rows is shifted. From the top: bench/host.sh [DELIVERIES], at most 500000
+# Before it measures, `rt run` proves and builds crates/bench_host and all crates below it: an hour if none is proved yet.
 set -eu
-case ${1-1} in *[!0-9]* | "") echo "host.sh: a number is wanted, not '$1'" >&2; exit 2 ;; esac
+case ${1-1} in
+-h | --help) sed -n '2,/^set/s/^# \{0,1\}//p' "$0"; exit 0 ;;
+*[!0-9]* | "") echo "host.sh: a number is wanted, not '$1'" >&2; exit 2 ;;
+esac
 cd "$(dirname "$0")/../crates/bench_host"
 rt run -- all 2 4 > /dev/null
 python3 - "${1:-500000}" <<'P'

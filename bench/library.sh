@@ -7,7 +7,10 @@
 # least too, and its ratios; at the end what of the processors' time others took. It needs gcc. Timed is the archive that is named, or
 # the proved one (rt lib in crates/homa_c), or else one that it builds without proofs. From the top: bench/library.sh [ROUNDS [ARCHIVE]]
 set -eu
-case ${1-1} in *[!0-9]* | "") echo "library.sh: a number is wanted, not '$1'" >&2; exit 2 ;; esac
+case ${1-1} in
+-h | --help) sed -n '2,/^set/s/^# \{0,1\}//p' "$0"; exit 0 ;;
+*[!0-9]* | "") echo "library.sh: a number is wanted, not '$1'" >&2; exit 2 ;;
+esac
 cd "$(dirname "$0")/.."
 kit=$(dirname "$(dirname "$(readlink -f "$(command -v rt)")")")
 at=$(mktemp -d)

@@ -2,8 +2,12 @@
 # Times lines of a trace that are put together and written, beside copies of the same bytes through the same sink in the
 # same run, and prints the ratios: processor time, the least of seven runs. A run without lines is timed too, and taken
 # off. From the top: bench/lines.sh [LINES]
+# Before it measures, `rt run` proves and builds crates/bench_lines and all crates below it: an hour if none is proved yet.
 set -eu
-case ${1-1} in *[!0-9]* | "") echo "lines.sh: a number is wanted, not '$1'" >&2; exit 2 ;; esac
+case ${1-1} in
+-h | --help) sed -n '2,/^set/s/^# \{0,1\}//p' "$0"; exit 0 ;;
+*[!0-9]* | "") echo "lines.sh: a number is wanted, not '$1'" >&2; exit 2 ;;
+esac
 cd "$(dirname "$0")/../crates/bench_lines"
 rt run -- put clock 3 < /dev/null > /dev/null
 python3 - "${1:-1000000}" <<'P'

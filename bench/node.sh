@@ -4,7 +4,10 @@
 # time and system calls a call, and what it costs that each line is written as it comes. It needs a C compiler and strace.
 # From the top, with the program built (./homa) or named by HOMA: bench/node.sh [CALLS]
 set -eu
-case ${1-1} in *[!0-9]* | "") echo "node.sh: a number is wanted, not '$1'" >&2; exit 2 ;; esac
+case ${1-1} in
+-h | --help) sed -n '2,/^set/s/^# \{0,1\}//p' "$0"; exit 0 ;;
+*[!0-9]* | "") echo "node.sh: a number is wanted, not '$1'" >&2; exit 2 ;;
+esac
 cd "$(dirname "$0")/.."
 export HOMA="${HOMA:-$("$PWD/homa" --which)}"
 PYTHONPATH=tools exec python3 - "${1:-1000}" <<'P'

@@ -3,8 +3,12 @@
 # copied out of its pages (`Scratch::fill`) beside a copy of as many bytes, in the same run, and prints the ratios:
 # processor time, the least of nine runs. Messages that are opened and closed without pieces are timed too, and taken off
 # the first. From the top: bench/pool.sh [MESSAGES]
+# Before it measures, `rt run` proves and builds crates/bench_pool and all crates below it: an hour if none is proved yet.
 set -eu
-case ${1-1} in *[!0-9]* | "") echo "pool.sh: a number is wanted, not '$1'" >&2; exit 2 ;; esac
+case ${1-1} in
+-h | --help) sed -n '2,/^set/s/^# \{0,1\}//p' "$0"; exit 0 ;;
+*[!0-9]* | "") echo "pool.sh: a number is wanted, not '$1'" >&2; exit 2 ;;
+esac
 cd "$(dirname "$0")/../crates/bench_pool"
 rt run -- accept 2 < /dev/null > /dev/null
 python3 - "${1:-1000}" <<'P'

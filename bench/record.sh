@@ -4,7 +4,10 @@
 # A tick has 20 calls, so 100,000 calls take 50 seconds, twice. From the top, with the program built (./homa) or named by HOMA:
 # bench/record.sh [CALLS]
 set -eu
-case ${1-1} in *[!0-9]* | "") echo "record.sh: a number is wanted, not '$1'" >&2; exit 2 ;; esac
+case ${1-1} in
+-h | --help) sed -n '2,/^set/s/^# \{0,1\}//p' "$0"; exit 0 ;;
+*[!0-9]* | "") echo "record.sh: a number is wanted, not '$1'" >&2; exit 2 ;;
+esac
 cd "$(dirname "$0")/.."
 export HOMA="${HOMA:-$("$PWD/homa" --which)}"
 PYTHONPATH=tools exec python3 - "${1:-100000}" <<'P'

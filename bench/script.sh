@@ -1,8 +1,12 @@
 #!/usr/bin/env bash
 # Times the reading of a schedule of 50 MB beside `cat` of the same bytes, prints the ratio, and the most memory that
 # reading took at 5 MB and at 50 MB. From the top: bench/script.sh [MEGABYTES]
+# Before it measures, `rt run` proves and builds crates/bench_script and all crates below it: an hour if none is proved yet.
 set -eu
-case ${1-1} in *[!0-9]* | "") echo "script.sh: a number is wanted, not '$1'" >&2; exit 2 ;; esac
+case ${1-1} in
+-h | --help) sed -n '2,/^set/s/^# \{0,1\}//p' "$0"; exit 0 ;;
+*[!0-9]* | "") echo "script.sh: a number is wanted, not '$1'" >&2; exit 2 ;;
+esac
 cd "$(dirname "$0")/../crates/bench_script"
 rt run < stdin > /dev/null
 script=$(mktemp)

@@ -4,6 +4,9 @@
 # p50 and p99 of a call, calls a second of all clients, processor time a call of server and clients, and the most memory of the server. It
 # needs gcc and the archive (rt lib in crates/homa_c, or what is named). From the top: bench/store.sh [ROUNDS [ARCHIVE]]
 set -eu
+case ${1-} in
+-h | --help) sed -n '2,/^set/s/^# \{0,1\}//p' "$0"; exit 0 ;;
+esac
 cd "$(dirname "$0")/.."
 kit=$(dirname "$(dirname "$(readlink -f "$(command -v rt)")")")
 at=$(mktemp -d)

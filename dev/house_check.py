@@ -13,10 +13,14 @@ Prints what is wrong, a line each; the status is then 1, else 0. In the src/ of 
 What the lists name and nothing needs any more is wrong too. `dev/tidy` calls `problems`.
 """
 import os
-import re
 import sys
 
 TOP = os.path.dirname(os.path.dirname(os.path.abspath(__file__)))
+sys.path.insert(0, os.path.join(TOP, "tools"))
+from running import run
+
+import re
+
 MOST_ARGUMENTS, MOST_CLAUSES = 8, 14
 FACT = "// For the proof:"
 
@@ -195,6 +199,4 @@ def main(words):
 
 
 if __name__ == "__main__":
-    sys.path.insert(0, os.path.join(TOP, "tools"))
-    from running import run
     run("house_check.py", lambda: main(sys.argv[1:]), doc=__doc__)

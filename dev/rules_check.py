@@ -7,12 +7,16 @@ Without a word it prints what is wrong, a line each; the status is then 1, else 
 column 'code' or 'law' is now, where its crate has it in exactly one other file, and links each place to its file. `dev/tidy` calls
 `problems`.
 """
-import glob
 import os
-import re
 import sys
 
 TOP = os.path.dirname(os.path.dirname(os.path.abspath(__file__)))
+sys.path.insert(0, os.path.join(TOP, "tools"))
+from running import run
+
+import glob
+import re
+
 PAGE = "docs/maintain/rules.md"
 COLUMNS = ["rule", "the papers' word", "source", "definition", "code", "law", "row or test"]
 NEEDED = ["source", "definition", "code", "law", "row or test"]
@@ -155,6 +159,4 @@ def main(words):
 
 
 if __name__ == "__main__":
-    sys.path.insert(0, os.path.join(TOP, "tools"))
-    from running import run
     run("rules_check.py", lambda: main(sys.argv[1:]), doc=__doc__)

@@ -1,16 +1,34 @@
 """What test programs share: tests are functions, chosen by words in their names, and the last line counts them."""
+import atexit
 import os
+import shutil
 import signal
 import sys
+import tempfile
 import time
 
 TOP = os.path.dirname(os.path.dirname(os.path.abspath(__file__)))
 sys.path[:0] = [os.path.join(TOP, it) for it in ("tools", "dev")]
 from running import run
 
+# What runs a tool: tools need the standard library alone, so they have no site-packages here. Python starts faster so.
+PYTHON = [sys.executable, "-S"]
 
 # A shell ignores Ctrl-C in what it runs in the background, and so would all that the tests start.
 signal.signal(signal.SIGINT, signal.default_int_handler)
+
+
+def put_python_first():
+    """Makes `python3` this Python for all that the tests start: the first one of the PATH may be a slow script."""
+    there = shutil.which("python3")
+    if not there or os.path.realpath(there) != os.path.realpath(sys.executable):
+        folder = tempfile.mkdtemp(prefix="python-")
+        atexit.register(shutil.rmtree, folder)
+        os.symlink(sys.executable, f"{folder}/python3")
+        os.environ["PATH"] = f"{folder}:{os.environ['PATH']}"
+
+
+put_python_first()
 
 
 class Skipped(Exception):

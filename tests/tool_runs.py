@@ -7,7 +7,7 @@ import sys
 import tempfile
 from unittest import mock
 
-import testing  # (it puts tools/ and dev/ on the path)
+from testing import PYTHON  # (it puts tools/ and dev/ on the path)
 
 from modules import module, path_of
 from running import run
@@ -49,7 +49,7 @@ def ran(tool, *words, text=None):
 
 def process(tool, *words):
     """The words of a tool as a process."""
-    return [sys.executable, path_of(tool), *words]
+    return [*PYTHON, path_of(tool), *words]
 
 
 def in_shell(line, *words):

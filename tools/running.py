@@ -7,8 +7,17 @@ A tool ends with `run("NAME", main)`. Its status then is the one that `main` ret
   ended, and `with` blocks are left;
 - 141 if nobody reads its output any more.
 Any other exception is a defect of the tool, and keeps its traceback.
+
+A tool imports this module before all others: from there on Ctrl-C ends it without a traceback. Only Python's own start,
+before the tool's first line, may still print one.
 """
-import argparse
+import _signal
+
+# Ctrl-C during the imports ends the tool at once; `run` sets a handler again. `_signal` is a part of Python's binary:
+# `signal` is a file that imports others, and Ctrl-C during those would print a traceback.
+if _signal.getsignal(_signal.SIGINT) is _signal.default_int_handler:
+    _signal.signal(_signal.SIGINT, _signal.SIG_DFL)
+
 import contextlib
 import errno
 import glob
@@ -20,10 +29,6 @@ import sys
 # A write that fails for one of these reasons, and names no file, was a write to standard output.
 FULL = (errno.ENOSPC, errno.EFBIG, errno.EDQUOT)
 STREAMS = {"stdin": "standard input", "stdout": "standard output", "stderr": "standard error"}
-
-# Ctrl-C during the imports ends the tool at once, without a traceback; `run` sets Python's own handler again.
-if signal.getsignal(signal.SIGINT) is signal.default_int_handler:
-    signal.signal(signal.SIGINT, signal.SIG_DFL)
 
 
 class Refusal(Exception):
@@ -121,12 +126,35 @@ def end(number, _):
     sys.exit(128 + number)
 
 
+def interrupt(number, _):
+    """Ends the tool after its `with` blocks are left. A second Ctrl-C doesn't wait for those."""
+    signal.signal(number, signal.SIG_DFL)
+    raise KeyboardInterrupt
+
+
 def handle_signals():
+    sys.unraisablehook = end_unraised
     if signal.getsignal(signal.SIGINT) is signal.SIG_DFL:
-        signal.signal(signal.SIGINT, signal.default_int_handler)
+        signal.signal(signal.SIGINT, interrupt)
     for number in (signal.SIGTERM, signal.SIGHUP):
         if signal.getsignal(number) is signal.SIG_DFL:
             signal.signal(number, end)
+
+
+def end_unraised(fault):
+    """Ends the tool where Python has no caller for the exception of a signal, as in the end of an object."""
+    if issubclass(fault.exc_type, KeyboardInterrupt):
+        exit_by_signal(signal.SIGINT)
+    if issubclass(fault.exc_type, SystemExit):
+        os._exit(fault.exc_value.code)
+    sys.__unraisablehook__(fault)
+
+
+def restore_signals():
+    """Gives the signals their usual effect: what Python does at its exit can't be left without a traceback."""
+    for number in (signal.SIGINT, signal.SIGTERM, signal.SIGHUP):
+        if signal.getsignal(number) is not signal.SIG_IGN:
+            signal.signal(number, signal.SIG_DFL)
 
 
 def asks_for_help():
@@ -143,17 +171,15 @@ def status_of(main, doc):
         sys.stdout.flush()
 
 
-def run(tool, main, faults=(), doc=None):
-    """Runs `main` and exits with its status. With `doc`, `--help` prints that text. `faults` are refusals too."""
-    replace_closed_streams()
-    handle_signals()
+def outcome(tool, main, faults, doc):
+    """The status of `main`, or of how it ended."""
     try:
-        status = status_of(main, doc)
-    except KeyboardInterrupt:
-        exit_by_signal(signal.SIGINT)
+        replace_closed_streams()
+        handle_signals()
+        return status_of(main, doc)
     except BrokenPipeError:
         discard_output()
-        status = 141
+        return 141
     except UnicodeDecodeError as fault:
         byte = fault.object[fault.start]
         stop(tool, f"the input isn't text: byte {byte:#04x} isn't UTF-8")
@@ -163,10 +189,15 @@ def run(tool, main, faults=(), doc=None):
     except (Refusal, *faults) as fault:
         stop(tool, fault)
     finally:
-        # what Python does at its exit can't be left by an exception without a traceback
-        for number in (signal.SIGINT, signal.SIGTERM, signal.SIGHUP):
-            if signal.getsignal(number) is not signal.SIG_IGN:
-                signal.signal(number, signal.SIG_DFL)
+        restore_signals()
+
+
+def run(tool, main, faults=(), doc=None):
+    """Runs `main` and exits with its status. With `doc`, `--help` prints that text. `faults` are refusals too."""
+    try:
+        status = outcome(tool, main, faults, doc)
+    except KeyboardInterrupt:
+        exit_by_signal(signal.SIGINT)
     sys.exit(status)
 
 
@@ -190,6 +221,7 @@ def range_text(low, high, above):
 
 def number(low=-math.inf, high=math.inf, kind=int, above=None):
     """An option's type: a number from `low` to `high`; with `above`, one above it."""
+    import argparse
 
     def read(text):
         wanted = f"a {'whole ' if kind is int else ''}number {range_text(low, high, above)}"
