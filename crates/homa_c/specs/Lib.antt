@@ -5,3 +5,4 @@ pub mod Results
 pub mod Counted
 pub mod Begun
 pub mod Late
+pub mod Opened

@@ -1,6 +1,5 @@
 // What C begins: a host, its steps, and its end.
 ghost use Rattle.std.specs.Prelude.{◌≡◌, ◌≢◌, ◌≤◌, ◌<◌, ◌+◌, ◌⊎◌, ℕ, true, false, [], Some, None, length};
-ghost use Rattle.homa_plain.specs.Settings.{IsValid};
 ghost use Rattle.homa_plain.specs.Rules.{Answer};
 ghost use Rattle.homa_plain.specs.Steps.{next_id, has_run};
 ghost use Rattle.homa_host.specs.declared.asked.Asked.{Asked};
@@ -15,6 +14,7 @@ ghost use Rattle.late_host.specs.declared.outcomes.Heard.{Heard};
 ghost use Rattle.late_host.specs.Late.{late_opened, WasGiven, without_ran};
 ghost use Rattle.homa_c.specs.Results.{code, fault_code, open_code};
 ghost use Rattle.homa_c.specs.Late.{is_late, Hears};
+ghost use Rattle.homa_c.specs.Opened.{Opens};
 ghost use Rattle.homa_c.specs.Shown.{shown_call, shown_asked, given_settings};
 ghost use Rattle.homa_c.specs.Begun.{calling, receiving, turning};
 
@@ -46,13 +46,9 @@ pub extern "C" fn homa_open(
     last: u64,
     host: &mut Handle,
 ) -> u32
-    ensures opened { result ≡ 0
-        → host.new.slot.held ≡ late_opened (given_settings settings.now) (record { 0 = id }) inc last 0 0 }
-    ensures is_open { result ≡ 0 → host.new.is_open ≡ true }
-    ensures code { result ≢ 3 → result ≡ open_code host.old.is_open settings.now id inc last }
-    ensures no_memory { result ≡ 3 → open_code host.old.is_open settings.now id inc last ≡ 0 }
-    ensures valid { result ≡ 0 → IsValid (given_settings settings.now) }
-    ensures same { result ≢ 0 → host.new ≡ host.old }
+    ensures { Opens (given_settings settings.now)
+        (late_opened (given_settings settings.now) (record { 0 = id }) inc last 0 0)
+        (open_code host.old.is_open settings.now id inc last) result host.old host.new }
 {
     opens(alloc, settings, id, inc, last, 0, 0, host)
 }
@@ -68,13 +64,9 @@ pub(crate) fn opens(
     keep: u32,
     host: &mut Handle,
 ) -> u32
-    ensures opened { result ≡ 0
-        → host.new.slot.held ≡ late_opened (given_settings settings.now) (record { 0 = id }) inc last kept keep }
-    ensures is_open { result ≡ 0 → host.new.is_open ≡ true }
-    ensures code { result ≢ 3 → result ≡ open_code host.old.is_open settings.now id inc last }
-    ensures no_memory { result ≡ 3 → open_code host.old.is_open settings.now id inc last ≡ 0 }
-    ensures valid { result ≡ 0 → IsValid (given_settings settings.now) }
-    ensures same { result ≢ 0 → host.new ≡ host.old }
+    ensures { Opens (given_settings settings.now)
+        (late_opened (given_settings settings.now) (record { 0 = id }) inc last kept keep)
+        (open_code host.old.is_open settings.now id inc last) result host.old host.new }
 {
     if host.is_open {
         return IS_OPEN;

@@ -1,12 +1,12 @@
 // What C does with a host that keeps what asks: it opens one, and answers later, or never.
-ghost use Rattle.std.specs.Prelude.{◌≡◌, ◌≢◌, ◌≤◌, ◌+◌, ◌↔◌, ◌⊎◌, true, false, IsSome};
-ghost use Rattle.homa_plain.specs.Settings.{IsValid};
+ghost use Rattle.std.specs.Prelude.{◌≡◌, ◌≤◌, ◌+◌, ◌↔◌, ◌⊎◌, true, false, IsSome};
 ghost use Rattle.late_host.specs.declared.outcomes.Answered.{Answered};
 ghost use Rattle.late_host.specs.Kept.{call_of, without};
 ghost use Rattle.late_host.specs.Late.{late_opened};
 ghost use Rattle.homa_c.specs.Results.{can_keep, open_late_code};
 ghost use Rattle.homa_c.specs.Shown.{given_call, given_settings};
 ghost use Rattle.homa_c.specs.Late.{Settles};
+ghost use Rattle.homa_c.specs.Opened.{Opens};
 
 use crate::entries::{HomaCall, given_call};
 use crate::exports::opens;
@@ -31,13 +31,9 @@ pub extern "C" fn homa_open_late(
     keep: u32,
     host: &mut Handle,
 ) -> u32
-    ensures opened { result ≡ 0
-        → host.new.slot.held ≡ late_opened (given_settings settings.now) (record { 0 = id }) inc last kept keep }
-    ensures is_open { result ≡ 0 → host.new.is_open ≡ true }
-    ensures code { result ≢ 3 → result ≡ open_late_code host.old.is_open settings.now id inc last kept keep }
-    ensures no_memory { result ≡ 3 → open_late_code host.old.is_open settings.now id inc last kept keep ≡ 0 }
-    ensures valid { result ≡ 0 → IsValid (given_settings settings.now) }
-    ensures same { result ≢ 0 → host.new ≡ host.old }
+    ensures { Opens (given_settings settings.now)
+        (late_opened (given_settings settings.now) (record { 0 = id }) inc last kept keep)
+        (open_late_code host.old.is_open settings.now id inc last kept keep) result host.old host.new }
 {
     if !host.is_open && !can_keep(settings, kept, keep) {
         return BAD_SETTING;
