@@ -2,10 +2,10 @@
 ghost use Rattle.std.specs.Prelude.{◌≡◌, ◌+◌, ◌<◌, ◌^◌, length};
 
 use call_figures::{CallEnd, SimCall, Transfer};
-use simulated_network::Outcome;
+use simulated_network::RunOutcome;
 
 /// How the calls that were measured ended, and for how long all of their pieces waited, in picoseconds.
-#[derive(Clone, Copy, Debug, PartialEq, Eq)]
+#[derive(Clone, Copy)]
 pub(crate) struct Tally {
     pub(crate) done: u64,
     pub(crate) failed: u64,
@@ -23,7 +23,7 @@ pub(crate) struct Tally {
 }
 
 /// The waits of both messages of a call, in picoseconds.
-#[derive(Clone, Copy, Debug, PartialEq, Eq)]
+#[derive(Clone, Copy)]
 pub(crate) struct CallWaits {
     pub(crate) response: u32,
     pub(crate) again: u64,
@@ -34,7 +34,7 @@ pub(crate) struct CallWaits {
 }
 
 // The message of a side of a call; one that isn't known if there is none.
-fn message(outcome: &Outcome, place: u32, is_response: bool) -> Transfer {
+fn message(outcome: &RunOutcome, place: u32, is_response: bool) -> Transfer {
     outcome
         .transfers
         .message(place, is_response)
@@ -42,7 +42,7 @@ fn message(outcome: &Outcome, place: u32, is_response: bool) -> Transfer {
 }
 
 /// The waits of a call's messages.
-pub(crate) fn waits_of(outcome: &Outcome, call: &SimCall) -> CallWaits {
+pub(crate) fn waits_of(outcome: &RunOutcome, call: &SimCall) -> CallWaits {
     let place = outcome.calls.place(call.id).unwrap_or(u32::MAX);
     let (asked, answered) = (
         message(outcome, place, false),
@@ -106,7 +106,7 @@ impl Tally {
     }
 
     /// That of these calls of a run.
-    pub(crate) fn of(outcome: &Outcome, calls: &[SimCall]) -> Tally
+    pub(crate) fn of(outcome: &RunOutcome, calls: &[SimCall]) -> Tally
         ensures { result.done + result.failed + result.still_open ≡ length calls.now }
     {
         let mut tally = Tally::none();
