@@ -1,3 +1,4 @@
 pub mod HeedLaws
 pub mod TurnLaws
 pub mod RunLaws
+pub mod NetworkLaws
