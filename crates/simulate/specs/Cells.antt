@@ -1,5 +1,5 @@
 -- What stands in columns, as text.
-use Rattle.std.specs.Prelude.{ℕ, ◌/◌, ◌%◌, List, [], ◌∷◌, ◌++◌, codes}
+use Rattle.std.specs.Prelude.{ℕ, ◌/◌, ◌%◌, List, [], ◌++◌, codes}
 use Rattle.std.specs.Fmt.{decimal}
 use Rattle.homa_plain.specs.Text.{id_word}
 use Rattle.call_figures.specs.declared.ranks.Rank.{Rank}

@@ -1,9 +1,9 @@
 -- When figures may not say what they seem to say.
-use Rattle.std.specs.Prelude.{ℕ, ◌+◌, ◌-◌, ◌*◌, ◌/◌, max, nat_lt, Bool, true, false, ◌||◌}
+use Rattle.std.specs.Prelude.{ℕ, ◌+◌, ◌-◌, ◌*◌, ◌/◌, max, nat_lt, Bool, false, ◌||◌}
 use Rattle.experiment.specs.declared.trial.Experiment.{Experiment}
 use Rattle.experiment.specs.Wires.{wire, cut_for}
 use Rattle.call_figures.specs.declared.ranks.Rank.{Rank}
-use Rattle.call_figures.specs.declared.ranks.Rank.TheVariants.{Few, Slower, At}
+use Rattle.call_figures.specs.declared.ranks.Rank.TheVariants.{At}
 
 -- how many bytes of payload a link carries in a tick, in full frames
 abbrev pub carried : Experiment → ℕ

@@ -1,4 +1,7 @@
 // What the program does.
+ghost use Rattle.std.specs.Prelude.{◌≡◌, ℕ, List, Some};
+ghost use Rattle.simulate.specs.Ends.{IsRead};
+
 use crate::ended::Ended;
 use crate::progress::Hearing;
 use crate::running::{Job, run};
@@ -37,7 +40,9 @@ pub(crate) fn answer<S: Source, K: Sink + Drop, E: Eprint, T: Hearing>(
     sink: K,
     notes: &E,
     telling: &mut T,
-) -> Ended {
+) -> Ended
+    ensures { (bytes : List ℕ) → S.left source.old ≡ Some bytes → IsRead bytes result }
+{
     let experiment = match read(alloc, source) {
         Ok(experiment) => experiment,
         Err(fault) => return Ended::Unread(fault),

@@ -34,7 +34,7 @@ fn a_run_is_made_again_from_its_values(rt: HostRuntime) {
     let second = text_again(&rt, alloc, &experiment_of(&rt, alloc, first.as_str()));
     assert_eq!(&rt; first.as_str(), second.as_str());
     let lines =
-        "card srpt\nhot 1 20\nsize 10 3\nlength 30 2\nsize 50 1\nrestart 2 7\ncall 1 2 3 4\ninject 0 9 8\nshift 1 5 6\n";
+        "card srpt\nhot 1 20\nlength 10 3\nlength 30 2\nsize 50 1\nrestart 2 7\ncall 1 2 3 4\ninject 0 9 8\nshift 1 5 6\n";
     assert!(&rt; first.as_str().ends_with(lines));
 }
 
