@@ -1,5 +1,5 @@
 -- What becomes of packets, in numbers.
-use Rattle.std.specs.Prelude.{◌≡◌, ℕ, ◌+◌, ◌-◌}
+use Rattle.std.specs.Prelude.{◌≡◌, ℕ, ◌+◌}
 use Rattle.packet_network.specs.declared.fates.Fates.{Fates}
 
 -- Each packet that was sent, and each that came twice, has its fate or is under way.

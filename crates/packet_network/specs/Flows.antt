@@ -1,5 +1,5 @@
 -- What is due, and what became of packets.
-use Rattle.std.specs.Prelude.{◌≡◌, ◌<◌, ℕ, ◌-◌, ◌^◌}
+use Rattle.std.specs.Prelude.{◌<◌, ℕ, ◌-◌, ◌^◌}
 use Rattle.packet_network.specs.declared.flow.Flow.{Flow}
 use Rattle.packet_network.specs.Standing.{in_agenda}
 

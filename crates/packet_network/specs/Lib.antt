@@ -6,3 +6,4 @@ pub mod Flows
 pub mod States
 pub mod Paths
 pub mod Networks
+pub mod Measures

@@ -16,4 +16,7 @@ state_of n = record {
   under_way = standing n;
   loss = n.paths.network.loss;
   repeat = n.paths.network.repeat;
+  cards = n.paths.cards.items;
+  outputs = n.paths.outputs.items;
+  down = n.paths.down;
 }

@@ -1,5 +1,5 @@
 -- What stays and what is lost as packets go on.
-use Rattle.std.specs.Prelude.{◌≡◌, ℕ}
+use Rattle.std.specs.Prelude.{◌≡◌}
 use Rattle.packet_network.specs.declared.paths.PacketPaths.{PacketPaths}
 
 -- as many of a million are lost, and as many come twice

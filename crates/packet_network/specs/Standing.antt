@@ -1,5 +1,5 @@
 -- Where packets stand.
-use Rattle.std.specs.Prelude.{ℕ, List, length, ◌+◌}
+use Rattle.std.specs.Prelude.{ℕ, List, length}
 use Rattle.std.specs.List.{sum_by}
 use Rattle.network_parts.specs.declared.agenda.Due.{Due}
 use Rattle.network_parts.specs.declared.port.Waiting.{Waiting}

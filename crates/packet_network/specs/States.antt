@@ -1,17 +1,22 @@
 -- A network, as contracts see it.
-use Rattle.std.specs.Prelude.{◌≡◌, ℕ, ◌+◌, Option, None, Some}
+use Rattle.std.specs.Prelude.{◌≡◌, ℕ, List, Option, None, Some}
 use Rattle.packet_network.specs.declared.fates.Fates.{Fates}
+use Rattle.packet_network.specs.declared.measure.Down.{Down}
+use Rattle.packet_network.specs.declared.outlet.Outlet.{Outlet}
 use Rattle.packet_network.specs.declared.event.Reached.{Reached}
 use Rattle.packet_network.specs.declared.event.Reached.TheVariants.{Task, Card, Output, AtHost, Nothing}
 
 -- The moment of what came last, what became of packets, how many are under way, and how many of a million are lost and come twice. Those
--- under way are counted where they stand: in what is due, at cards and at outputs.
+-- under way are counted where they stand: in what is due, at cards and at outputs. And what was measured at these.
 pub record NetworkState : Type 0 where
   pub moment : ℕ
   pub fates : Fates
   pub under_way : ℕ
   pub loss : ℕ
   pub repeat : ℕ
+  pub cards : List Outlet
+  pub outputs : List Outlet
+  pub down : Down
 
 -- how many packets came to their host
 abbrev pub arrived : Option Reached → ℕ

@@ -3,10 +3,11 @@ ghost use Rattle.std.specs.Prelude.{◌≡◌, ◌≤◌, ◌<◌, ◌+◌, ◌^
 ghost use Rattle.packet_network.specs.Standing.{in_agenda, carried};
 ghost use Rattle.packet_network.specs.Censuses.{one_sent, one_repeated, one_lost, one_refused, one_delivered, IsStill};
 
-use crate::chance::chance_of;
+use crate::chance::Chance;
 use crate::event::{NetworkEvent, Place, Task};
 use crate::fates::Census;
 use crate::outlet::Outlet;
+use crate::outlets::enter_at;
 use crate::packet::SimPacket;
 use crate::stop::NetworkStop;
 use experiment::Network;
@@ -29,7 +30,7 @@ const MOST: u64 = 1 << 62;
 
 impl Flow {
     ghost use Rattle.packet_network.specs.Flows.{outside, IsInTime};
-    ghost use Rattle.packet_network.specs.Outlets.{waiting_at};
+    ghost use Rattle.packet_network.specs.Outlets.{waiting_at_all};
 
     /// The moment of what came last, if the run may go on.
     pub(crate) fn in_time(&self) -> Result<u64, NetworkStop>
@@ -154,6 +155,20 @@ impl Flow {
         Ok(())
     }
 
+    // Something without a packet is due at a moment.
+    #[tactic(auto, using(crate::proofs::StandingLaws::one_due))]
+    fn await_free(&mut self, at: u64, event: NetworkEvent) -> Result<(), NetworkStop>
+        requires carried { carried event ≡ 0 }
+        requires entered { self.old.agenda.count < 2 ^ 63 }
+        ensures census { self.new.census ≡ self.old.census }
+        ensures outside { outside self.new ≡ outside self.old }
+        ensures moment { self.new.agenda.moment ≡ self.old.agenda.moment }
+        ensures entered { self.new.agenda.count ≤ self.old.agenda.count + 1 }
+    {
+        self.agenda.enter(at, event)?;
+        Ok(())
+    }
+
     // A packet comes to the switch once more, at a moment.
     #[tactic(auto, using(crate::proofs::StandingLaws::one_due))]
     fn repeat(&mut self, at: u64, packet: &SimPacket) -> Result<(), NetworkStop>
@@ -171,6 +186,52 @@ impl Flow {
         Ok(())
     }
 
+    // A packet comes to the switch once more, at a moment, if it is repeated.
+    fn repeat_if(
+        &mut self,
+        is_repeated: bool,
+        at: u64,
+        packet: &SimPacket,
+    ) -> Result<(), NetworkStop>
+        requires repeated { self.old.census.fates.repeated < 2 ^ 62 }
+        requires entered { self.old.agenda.count < 2 ^ 63 }
+        ensures still { IsStill self.old.census.fates self.new.census.fates }
+        ensures lost { self.new.census.fates.lost ≡ self.old.census.fates.lost }
+        ensures single { is_repeated ≡ false → self.new.census.fates.repeated ≡ self.old.census.fates.repeated }
+        ensures outside { outside self.new ≡ outside self.old }
+        ensures moment { self.new.agenda.moment ≡ self.old.agenda.moment }
+        ensures entered { self.new.agenda.count ≤ self.old.agenda.count + 1 }
+    {
+        if is_repeated {
+            self.repeat(at, packet)
+        } else {
+            Ok(())
+        }
+    }
+
+    // A packet is on its way to the switch until a moment, unless it is lost.
+    fn carry_unless(
+        &mut self,
+        is_lost: bool,
+        at: u64,
+        packet: &SimPacket,
+    ) -> Result<(), NetworkStop>
+        requires outside { 0 < outside self.old }
+        requires entered { self.old.agenda.count < 2 ^ 63 }
+        ensures still { IsStill self.old.census.fates self.new.census.fates }
+        ensures kept { is_lost ≡ false → OnOk result (self.new.census.fates.lost ≡ self.old.census.fates.lost) }
+        ensures repeated { self.new.census.fates.repeated ≡ self.old.census.fates.repeated }
+        ensures outside { outside self.new + 1 ≡ outside self.old }
+        ensures moment { self.new.agenda.moment ≡ self.old.agenda.moment }
+    {
+        if is_lost {
+            self.lose(packet);
+            Ok(())
+        } else {
+            self.carry(at, packet, NetworkEvent::AtSwitch(*packet))
+        }
+    }
+
     /// What is due next happens now: a packet that it has with it is under way without anything due.
     #[tactic(auto, using(crate::proofs::StandingLaws::one_happens))]
     pub(crate) fn next(&mut self) -> Option<NetworkEvent>
@@ -179,7 +240,6 @@ impl Flow {
         ensures census { self.new.census ≡ self.old.census }
         ensures forth { self.old.agenda.moment ≤ self.new.agenda.moment }
         ensures entered { self.new.agenda.count ≡ self.old.agenda.count }
-        ensures same { result ≡ None → self.new.agenda.moment ≡ self.old.agenda.moment }
     {
         let due = self.agenda.next()?;
         Some(due.what)
@@ -189,17 +249,18 @@ impl Flow {
     /// runs out.
     pub(crate) fn reach(
         &mut self,
-        output: &mut Outlet,
+        outputs: &mut [Outlet],
         packet: &SimPacket,
     ) -> Result<bool, NetworkStop>
-        requires { 0 < outside self.old }
-        ensures placed { outside self.new + (waiting_at output.old + 1) ≡ outside self.old + waiting_at output.new }
-        ensures waits { result ≡ Ok true → self.new.census.fates ≡ self.old.census.fates }
-        ensures full { result ≡ Ok false → self.new.census.fates ≡ one_refused self.old.census.fates }
-        ensures err { OnErr result (self.new.census.fates ≡ one_lost self.old.census.fates) }
+        requires outside { 0 < outside self.old }
+        requires all { length outputs.old ≡ 32 }
+        ensures placed { outside self.new + (waiting_at_all outputs.old + 1) ≡ outside self.old + waiting_at_all outputs.new }
+        ensures still { IsStill self.old.census.fates self.new.census.fates }
+        ensures kept { OnOk result (self.new.census.fates.lost ≡ self.old.census.fates.lost) }
+        ensures repeated { self.new.census.fates.repeated ≡ self.old.census.fates.repeated }
         ensures agenda { self.new.agenda ≡ self.old.agenda }
     {
-        match output.enter(self.agenda.now(), *packet) {
+        match enter_at(outputs, packet.receiver(), self.agenda.now(), *packet) {
             Ok(true) => Ok(true),
             Ok(false) => {
                 self.refuse(packet);
@@ -213,47 +274,35 @@ impl Flow {
     }
 
     /// A packet left its card and is on its way to the switch, or is lost.
-    #[tactic(auto, using(crate::proofs::StandingLaws::one_due))]
     pub(crate) fn leave_card(
         &mut self,
         place: Place,
         packet: &SimPacket,
         passage: Passage,
         network: &Network,
-        seed: u64,
+        chance: Chance,
     ) -> Result<(), NetworkStop>
         requires outside { 0 < outside self.old }
         requires there { passage.there < 2 ^ 63 }
+        requires late { chance.late ≤ network.now.jitter }
         requires entered { self.old.agenda.count < 2 ^ 62 }
         requires repeated { self.old.census.fates.repeated < 2 ^ 62 }
         ensures still { IsStill self.old.census.fates self.new.census.fates }
-        ensures full { self.new.census.fates.full ≡ self.old.census.fates.full }
-        ensures lossless { network.now.loss ≡ 0 → OnOk result (self.new.census.fates.lost ≡ self.old.census.fates.lost) }
-        ensures single { network.now.repeat ≡ 0 → self.new.census.fates.repeated ≡ self.old.census.fates.repeated }
+        ensures kept { chance.is_lost ≡ false → OnOk result (self.new.census.fates.lost ≡ self.old.census.fates.lost) }
+        ensures single { chance.is_repeated ≡ false → self.new.census.fates.repeated ≡ self.old.census.fates.repeated }
         ensures outside { outside self.new + 1 ≡ outside self.old }
         ensures moment { self.new.agenda.moment ≡ self.old.agenda.moment }
     {
-        let chance = chance_of(seed, packet.name, network);
         let at = passage.there + network.switch + chance.late;
-        let freed = self.agenda.enter(passage.left, NetworkEvent::CardFree(place));
-        let repeated = if chance.is_repeated {
-            self.repeat(at + network.switch, packet)
-        } else {
-            Ok(())
-        };
-        let carried = if chance.is_lost {
-            self.lose(packet);
-            Ok(())
-        } else {
-            self.carry(at, packet, NetworkEvent::AtSwitch(*packet))
-        };
+        let freed = self.await_free(passage.left, NetworkEvent::CardFree(place));
+        let repeated = self.repeat_if(chance.is_repeated, at + network.switch, packet);
+        let carried = self.carry_unless(chance.is_lost, at, packet);
         freed?;
         repeated?;
         carried
     }
 
     /// A packet left its output and is on its way to its host.
-    #[tactic(auto, using(crate::proofs::StandingLaws::one_due))]
     pub(crate) fn leave_output(
         &mut self,
         place: Place,
@@ -264,17 +313,15 @@ impl Flow {
         requires outside { 0 < outside self.old }
         requires there { passage.there < 2 ^ 63 }
         requires entered { self.old.agenda.count < 2 ^ 62 }
-        ensures ok { OnOk result (self.new.census.fates ≡ self.old.census.fates) }
-        ensures err { OnErr result (IsStill self.old.census.fates self.new.census.fates) }
+        ensures still { IsStill self.old.census.fates self.new.census.fates }
+        ensures kept { OnOk result (self.new.census.fates.lost ≡ self.old.census.fates.lost) }
         ensures repeated { self.new.census.fates.repeated ≡ self.old.census.fates.repeated }
         ensures outside { outside self.new + 1 ≡ outside self.old }
         ensures moment { self.new.agenda.moment ≡ self.old.agenda.moment }
     {
         self.set_taken(place, true);
-        let freed = self
-            .agenda
-            .enter(passage.left, NetworkEvent::OutputFree(place));
         let at = passage.there + software(packet, network);
+        let freed = self.await_free(passage.left, NetworkEvent::OutputFree(place));
         let carried = self.carry(at, packet, NetworkEvent::AtHost(*packet));
         freed?;
         carried

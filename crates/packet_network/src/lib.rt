@@ -13,9 +13,11 @@ mod flow;
 mod measure;
 mod network;
 mod outlet;
+mod outlets;
 mod packet;
 mod paths;
 mod stop;
+mod tally;
 #[cfg(test)]
 mod tests;
 

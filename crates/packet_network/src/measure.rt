@@ -1,4 +1,6 @@
 // What is measured at queues.
+ghost use Rattle.std.specs.Prelude.{◌≡◌, ◌+◌, ◌-◌, ◌^◌, min};
+
 use crate::packet::PacketCause;
 
 /// How packets waited in queues, since counting began anew.
@@ -34,8 +36,12 @@ pub struct Down {
 }
 
 impl Waits {
+    ghost use Rattle.packet_network.specs.Measures.{no_waits};
+
     /// Nothing waited.
-    pub(crate) fn new() -> Waits {
+    pub(crate) fn new() -> Waits
+        ensures { result ≡ no_waits }
+    {
         Waits {
             begun: 0,
             waited: 0,
@@ -44,11 +50,24 @@ impl Waits {
             most: 0,
         }
     }
+
+    /// A packet of so many bytes begins to leave after a wait.
+    pub(crate) fn begin(&mut self, bytes: u64, wait: u64)
+        ensures begun { self.new.begun ≡ min (self.old.begun + 1) (2 ^ 64 - 1) }
+        ensures waited { self.new.waited ≡ min (self.old.waited + wait) (2 ^ 64 - 1) }
+    {
+        let product = u128::from(wait).saturating_mul(u128::from(bytes));
+        self.begun = self.begun.saturating_add(1);
+        self.waited = self.waited.saturating_add(wait);
+        self.weighted = self.weighted.saturating_add(product);
+    }
 }
 
 impl Level {
     /// Nothing waited.
-    pub(crate) fn new() -> Level {
+    pub(crate) fn new() -> Level
+        ensures { result.passed ≡ 0 }
+    {
         Level {
             most: 0,
             area: 0,
@@ -58,8 +77,12 @@ impl Level {
 }
 
 impl Down {
+    ghost use Rattle.packet_network.specs.Measures.{no_bytes};
+
     /// No bytes.
-    pub(crate) fn new() -> Down {
+    pub(crate) fn new() -> Down
+        ensures { result ≡ no_bytes }
+    {
         Down {
             data: 0,
             again: 0,

@@ -1,14 +1,15 @@
 //! A network as its user sees it.
-ghost use Rattle.std.specs.Prelude.{◌≡◌, ◌≤◌, ◌<◌, ◌+◌, IfOk, OnOk};
+ghost use Rattle.std.specs.Prelude.{◌≡◌, ◌≤◌, ◌<◌, ◌+◌, IfOk, IfSome, OnOk, slice_get};
 ghost use Rattle.packet_network.specs.Censuses.{IsConserved, no_fates};
+ghost use Rattle.packet_network.specs.Measures.{waits_of, passed_at, bytes_at, no_bytes};
 ghost use Rattle.packet_network.specs.States.{arrived};
 
 use crate::event::{Begun, NetworkEvent, Reached, Task};
-use crate::paths::PacketPaths;
 use crate::fates::Fates;
 use crate::measure::{Down, Level, Waits};
-use crate::outlet::Outlet;
+use crate::outlets::{all_waits, level_of_all};
 use crate::packet::SimPacket;
+use crate::paths::PacketPaths;
 use crate::stop::NetworkStop;
 use experiment::Experiment;
 use homa_plain::HostId;
@@ -107,6 +108,7 @@ impl PacketNetwork {
     /// How many bytes wait at a host's card.
     pub fn card_bytes(&self, host: HostId) -> u64
         requires { host.0 < 32 }
+        ensures { IfSome (slice_get self.now.cards host.0) (λ card. result ≡ bytes_at card) }
     {
         self.paths.cards[host.0 as usize].bytes()
     }
@@ -148,7 +150,10 @@ impl PacketNetwork {
         requires sender { sender.0 < 32 }
         ensures { self.new ≡ self.old }
     {
-        self.paths.flow.receivers[host.0 as usize].begins(self.paths.flow.agenda.now(), sender.0 as usize);
+        self.paths.flow.receivers[host.0 as usize].begins(
+            self.paths.flow.agenda.now(),
+            sender.0 as usize,
+        );
     }
 
     /// A sender's message of which a piece came is whole, or given up.
@@ -157,7 +162,10 @@ impl PacketNetwork {
         requires sender { sender.0 < 32 }
         ensures { self.new ≡ self.old }
     {
-        self.paths.flow.receivers[host.0 as usize].completes(self.paths.flow.agenda.now(), sender.0 as usize);
+        self.paths.flow.receivers[host.0 as usize].completes(
+            self.paths.flow.agenda.now(),
+            sender.0 as usize,
+        );
     }
 
     /// How a receiver's link was used up to now, since counting began anew.
@@ -177,54 +185,46 @@ impl PacketNetwork {
     }
 
     /// How packets waited at cards up to now, since counting began anew.
-    pub fn cards(&self) -> Waits {
-        all_waits(&self.paths.cards, self.paths.flow.agenda.now())
+    pub fn cards(&self) -> Waits
+        ensures { result ≡ waits_of self.now.moment self.now.cards }
+    {
+        all_waits(self.paths.cards.as_slice(), self.paths.flow.agenda.now())
     }
 
     /// How packets waited at the switch's outputs up to now, since counting began anew.
-    pub fn outputs(&self) -> Waits {
-        all_waits(&self.paths.outputs, self.paths.flow.agenda.now())
+    pub fn outputs(&self) -> Waits
+        ensures { result ≡ waits_of self.now.moment self.now.outputs }
+    {
+        all_waits(self.paths.outputs.as_slice(), self.paths.flow.agenda.now())
     }
 
     /// What waited and passed at a level of the switch's outputs up to now, since counting began anew.
     pub fn level(&self, level: usize) -> Level
         requires { level < 8 }
+        ensures { result.passed ≡ passed_at level self.now.outputs }
     {
-        let mut sum = Level::new();
-        for output in &self.paths.outputs {
-            sum = output.add_level(self.paths.flow.agenda.now(), level, &sum);
-        }
-        sum
+        level_of_all(
+            self.paths.outputs.as_slice(),
+            level,
+            self.paths.flow.agenda.now(),
+        )
     }
 
     /// The bytes that outputs began to send since counting began anew, by why they were sent.
-    pub fn down(&self) -> Down {
+    pub fn down(&self) -> Down
+        ensures { result ≡ self.now.down }
+    {
         self.paths.down
     }
 
     /// Counting begins anew: from now on gauges, spans, waits and bytes are those of what comes. Fates go on.
     pub fn restart(&mut self)
-        ensures { self.new ≡ self.old }
+        ensures moment { self.new.moment ≡ self.old.moment }
+        ensures fates { self.new.fates ≡ self.old.fates }
+        ensures under_way { self.new.under_way ≡ self.old.under_way }
+        ensures down { self.new.down ≡ no_bytes }
+        ensures given { IsAsGiven self.old self.new }
     {
-        let now = self.paths.flow.agenda.now();
-        for card in self.paths.cards.iter_mut() {
-            card.restart(now);
-        }
-        for output in self.paths.outputs.iter_mut() {
-            output.restart(now);
-        }
-        for receiver in self.paths.flow.receivers.iter_mut() {
-            receiver.restart(now);
-        }
-        self.paths.down = Down::new();
+        self.paths.restart();
     }
-}
-
-// How packets waited at all of these up to a moment.
-fn all_waits(outlets: &Vec<Outlet>, now: u64) -> Waits {
-    let mut waits = Waits::new();
-    for outlet in outlets {
-        waits = outlet.add_waits(now, &waits);
-    }
-    waits
 }

@@ -2,11 +2,10 @@
 ghost use Rattle.std.specs.Prelude.{◌≡◌, ◌≤◌, ◌<◌, ◌+◌, ◌*◌, ◌-◌, ◌^◌, length, nat_le, min, true, false, Ok, None, Some, IfOk, IfSome, OnErr};
 ghost use Rattle.network_parts.specs.Queues.{total};
 
-use crate::measure::{Level, Waits};
 use crate::packet::SimPacket;
+use crate::tally::QueueTally;
 use experiment::{Card, Network};
 use network_parts::{LEVELS, Link, Passage, Port, Waiting};
-use run_gauges::Gauge;
 use std::alloc::{AllocError, Global};
 use std::cmp::Reverse;
 use std::collections::BinaryHeap;
@@ -28,15 +27,10 @@ const MOST: u64 = 1 << 62;
 #[derive(Drop)]
 pub(crate) struct Outlet {
     order: Card,
+    pub(crate) tally: QueueTally,
     port: Port<SimPacket>,
     ranked: BinaryHeap<Reverse<Ranked>>,
     link: Link,
-    total: Gauge,
-    levels: [Gauge; 8],
-    passed: [u64; 8],
-    begun: u64,
-    waited: u64,
-    weighted: u128,
     // For how long the link was taken when counting began anew.
     taken: u64,
     ghost eight: { length port.queues ≡ 8 },
@@ -64,12 +58,7 @@ impl Outlet {
             port: Port::open(alloc, room)?,
             ranked: BinaryHeap::new(alloc),
             link: Link::new(network.byte, network.delay),
-            total: Gauge::new(),
-            levels: [Gauge::new(); 8],
-            passed: [0; 8],
-            begun: 0,
-            waited: 0,
-            weighted: 0,
+            tally: QueueTally::new(),
             taken: 0,
         })
     }
@@ -87,9 +76,9 @@ impl Outlet {
 
     /// How many bytes wait.
     pub(crate) fn bytes(&self) -> u64
-        ensures { result ≡ self.now.total.waiting }
+        ensures { result ≡ self.now.tally.total.waiting }
     {
-        self.total.waiting
+        self.tally.bytes()
     }
 
     /// Whether its link is free.
@@ -134,13 +123,12 @@ impl Outlet {
         ensures room { self.new.port.room ≡ self.old.port.room }
     {
         let level = self.level_of(&packet);
-        let bytes = u64::from(packet.bytes);
+        let bytes = packet.bytes;
         let mut packet = packet;
         packet.came = now;
         let fits = self.queue(level, packet)?;
         if fits {
-            self.total.rise(now, bytes);
-            self.levels[level].rise(now, bytes);
+            self.tally.comes(now, level, bytes);
         }
         Ok(fits)
     }
@@ -153,8 +141,14 @@ impl Outlet {
         ensures link { self.new.link ≡ self.old.link }
     {
         match self.order {
-            Card::Fifo | Card::Levels => self.port.next().map(|(_level, waiting)| waiting.packet),
-            Card::Srpt => self.ranked.pop().map(|Reverse(ranked)| ranked.packet),
+            Card::Fifo | Card::Levels => {
+                let (_level, waiting) = self.port.next()?;
+                Some(waiting.packet)
+            }
+            Card::Srpt => {
+                let Reverse(ranked) = self.ranked.pop()?;
+                Some(ranked.packet)
+            }
         }
     }
 
@@ -171,26 +165,9 @@ impl Outlet {
             return None;
         }
         let packet = self.next()?;
-        self.counts(now, &packet);
+        let level = self.level_of(&packet);
+        self.tally.goes(now, level, packet.bytes, packet.wait(now));
         Some((packet, self.link.pass(now, packet.bytes)))
-    }
-
-    // A packet begins.
-    fn counts(&mut self, now: u64, packet: &SimPacket)
-        ensures port { self.new.port ≡ self.old.port }
-        ensures ranked { self.new.ranked ≡ self.old.ranked }
-        ensures link { self.new.link ≡ self.old.link }
-    {
-        let level = self.level_of(packet);
-        let bytes = u64::from(packet.bytes);
-        self.total.fall(now, bytes);
-        self.levels[level].fall(now, bytes);
-        let wait = now.saturating_sub(packet.came);
-        self.passed[level] = self.passed[level].saturating_add(bytes);
-        self.begun = self.begun.saturating_add(1);
-        self.waited = self.waited.saturating_add(wait);
-        let product = u128::from(wait).saturating_mul(u128::from(bytes));
-        self.weighted = self.weighted.saturating_add(product);
     }
 
     // For how long the link was taken up to a moment.
@@ -210,41 +187,12 @@ impl Outlet {
         self.taken_to(now).saturating_sub(self.taken)
     }
 
-    /// Adds what was measured here up to a moment.
-    pub(crate) fn add_waits(&self, now: u64, waits: &Waits) -> Waits {
-        Waits {
-            begun: waits.begun.saturating_add(self.begun),
-            waited: waits.waited.saturating_add(self.waited),
-            weighted: waits.weighted.saturating_add(self.weighted),
-            area: waits.area.saturating_add(self.total.area_at(now)),
-            most: waits.most.max(self.total.most),
-        }
-    }
-
-    /// Adds what was measured here of a level up to a moment.
-    pub(crate) fn add_level(&self, now: u64, level: usize, sum: &Level) -> Level {
-        let gauge = &self.levels[level];
-        Level {
-            most: sum.most.max(gauge.most),
-            area: sum.area.saturating_add(gauge.area_at(now)),
-            passed: sum.passed.saturating_add(self.passed[level]),
-        }
-    }
-
     /// Counting begins anew.
     pub(crate) fn restart(&mut self, now: u64)
-        ensures port { self.new.port ≡ self.old.port }
-        ensures ranked { self.new.ranked ≡ self.old.ranked }
+        ensures waiting { waiting_at self.new ≡ waiting_at self.old }
         ensures link { self.new.link ≡ self.old.link }
     {
-        self.total.restart(now);
-        for gauge in self.levels.iter_mut() {
-            gauge.restart(now);
-        }
         self.taken = self.taken_to(now);
-        self.passed = [0; 8];
-        self.begun = 0;
-        self.waited = 0;
-        self.weighted = 0;
+        self.tally.restart(now);
     }
 }

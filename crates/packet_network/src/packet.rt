@@ -83,6 +83,13 @@ impl SimPacket {
         Place { host: self.to.0 }
     }
 
+    /// For how long it has waited in its queue.
+    pub(crate) fn wait(&self, now: u64) -> u64
+        ensures { result ≡ now - self.now.came }
+    {
+        now.saturating_sub(self.came)
+    }
+
     /// It began to leave a queue.
     pub(crate) fn begun(&self, place: Place, now: u64) -> Begun
         ensures host { result.host.0 ≡ place.host }
@@ -92,7 +99,7 @@ impl SimPacket {
         Begun {
             host: HostId(place.host),
             piece: self.piece,
-            wait: now.saturating_sub(self.came),
+            wait: self.wait(now),
         }
     }
 }

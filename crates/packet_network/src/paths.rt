@@ -3,13 +3,16 @@ ghost use Rattle.std.specs.Prelude.{◌≡◌, ◌≤◌, ◌<◌, ◌+◌, ◌^
 ghost use Rattle.packet_network.specs.Standing.{in_agenda};
 ghost use Rattle.packet_network.specs.Outlets.{waiting_at_all};
 ghost use Rattle.packet_network.specs.Censuses.{IsStill, no_fates};
+ghost use Rattle.packet_network.specs.Measures.{no_bytes};
 ghost use Rattle.packet_network.specs.States.{arrived, arriving};
 
+use crate::chance::chance_of;
 use crate::event::{Begun, NetworkEvent, Place, Reached};
 use crate::fates::Census;
 use crate::flow::Flow;
 use crate::measure::Down;
 use crate::outlet::Outlet;
+use crate::outlets::{begin_at, enter_at, open_all, restart_all};
 use crate::packet::SimPacket;
 use crate::stop::NetworkStop;
 use experiment::{Card, Experiment, Network};
@@ -32,23 +35,6 @@ pub(crate) struct PacketPaths {
     ghost counted: { flow.census.under_way ≡ in_agenda flow.agenda.dues + (waiting_at_all cards.items + waiting_at_all outputs.items) },
 }
 
-// The queues of so many hosts, in this order, and with this room.
-fn outlets(
-    alloc: Global,
-    network: &Network,
-    order: Card,
-    room: u64,
-) -> Result<Vec<Outlet>, AllocError>
-    ensures all { IfOk result (λ os. length os.items ≡ 32) }
-    ensures empty { IfOk result (λ os. waiting_at_all os.items ≡ 0) }
-{
-    let mut outlets = Vec::with_capacity(alloc, SENDERS)?;
-    for _ in 0..SENDERS {
-        outlets.push(Outlet::open(alloc, network, order, room)?)?;
-    }
-    Ok(outlets)
-}
-
 // As many receivers, which grant to so many senders at a time.
 fn receivers(alloc: Global, overcommit: u32) -> Result<Vec<Receiver>, AllocError>
     ensures { IfOk result (λ rs. length rs.items ≡ 32) }
@@ -58,6 +44,13 @@ fn receivers(alloc: Global, overcommit: u32) -> Result<Vec<Receiver>, AllocError
         receivers.push(Receiver::new(overcommit))?;
     }
     Ok(receivers)
+}
+
+// Spans are counted anew at all of these.
+fn restart_spans(receivers: &mut [Receiver], now: u64) {
+    for receiver in receivers.iter_mut() {
+        receiver.restart(now);
+    }
 }
 
 impl PacketPaths {
@@ -83,8 +76,8 @@ impl PacketPaths {
         };
         Ok(PacketPaths {
             flow,
-            cards: outlets(alloc, &network, network.card, u64::MAX)?,
-            outputs: outlets(alloc, &network, Card::Levels, u64::from(network.buffer))?,
+            cards: open_all(alloc, &network, network.card, u64::MAX)?,
+            outputs: open_all(alloc, &network, Card::Levels, u64::from(network.buffer))?,
             down: Down::new(),
             network,
             seed,
@@ -92,7 +85,6 @@ impl PacketPaths {
     }
 
     /// A packet comes to its sender's card. If the card's link is free the next packet there begins, which is told.
-    #[tactic(auto, using(crate::proofs::StandingLaws::one_changes))]
     pub(crate) fn send(&mut self, packet: SimPacket) -> Result<Option<Begun>, NetworkStop>
         ensures sent { OnOk result (self.new.flow.census.fates.sent ≡ self.old.flow.census.fates.sent + 1) }
         ensures at_most_one { self.new.flow.census.fates.sent ≤ self.old.flow.census.fates.sent + 1 }
@@ -104,7 +96,7 @@ impl PacketPaths {
     {
         let now = self.flow.in_time()?;
         let place = packet.sender();
-        let fits = self.cards[place.host as usize].enter(now, packet)?;
+        let fits = enter_at(self.cards.as_mut_slice(), place, now, packet)?;
         self.flow.send(&packet);
         if fits {
             return self.begin_at_card(place);
@@ -114,7 +106,6 @@ impl PacketPaths {
     }
 
     // A card sends its next packet, if its link is free.
-    #[tactic(auto, using(crate::proofs::StandingLaws::one_changes))]
     fn begin_at_card(&mut self, place: Place) -> Result<Option<Begun>, NetworkStop>
         requires entered { self.old.flow.agenda.count < 2 ^ 62 }
         requires repeated { self.old.flow.census.fates.repeated < 2 ^ 62 }
@@ -124,16 +115,16 @@ impl PacketPaths {
         ensures given { IsAsGiven self.old self.new }
     {
         let now = self.flow.agenda.now();
-        let Some((packet, passage)) = self.cards[place.host as usize].begin(now) else {
+        let Some((packet, passage)) = begin_at(self.cards.as_mut_slice(), place, now) else {
             return Ok(None);
         };
+        let chance = chance_of(self.seed, packet.name, &self.network);
         self.flow
-            .leave_card(place, &packet, passage, &self.network, self.seed)?;
+            .leave_card(place, &packet, passage, &self.network, chance)?;
         Ok(Some(packet.begun(place, now)))
     }
 
     // An output sends its next packet, if its link is free.
-    #[tactic(auto, using(crate::proofs::StandingLaws::one_changes))]
     fn begin_at_output(&mut self, place: Place) -> Result<Reached, NetworkStop>
         requires { self.old.flow.agenda.count < 2 ^ 62 }
         ensures still { IsStill self.old.flow.census.fates self.new.flow.census.fates }
@@ -143,9 +134,8 @@ impl PacketPaths {
         ensures none { IfOk result (λ reached. arriving reached ≡ 0) }
     {
         let now = self.flow.agenda.now();
-        let output = &mut self.outputs[place.host as usize];
-        let Some((packet, passage)) = output.begin(now) else {
-            if output.is_free(now) {
+        let Some((packet, passage)) = begin_at(self.outputs.as_mut_slice(), place, now) else {
+            if self.outputs[place.host as usize].is_free(now) {
                 self.flow.set_taken(place, false);
             }
             return Ok(Reached::Nothing);
@@ -157,7 +147,6 @@ impl PacketPaths {
     }
 
     /// What happens next, or none where nothing is due.
-    #[tactic(auto, using(crate::proofs::StandingLaws::one_changes))]
     pub(crate) fn next(&mut self) -> Result<Option<Reached>, NetworkStop>
         ensures sent { self.new.flow.census.fates.sent ≡ self.old.flow.census.fates.sent }
         ensures arrived { IfOk result (λ r. self.new.flow.census.fates.delivered ≡ self.old.flow.census.fates.delivered + arrived r) }
@@ -179,9 +168,12 @@ impl PacketPaths {
             NetworkEvent::OutputFree(place) => self.begin_at_output(place)?,
             NetworkEvent::AtSwitch(packet) => {
                 let place = packet.receiver();
-                let output = &mut self.outputs[place.host as usize];
-                let waits = self.flow.reach(output, &packet)?;
-                if waits { self.begin_at_output(place)? } else { Reached::Nothing }
+                let waits = self.flow.reach(self.outputs.as_mut_slice(), &packet)?;
+                if waits {
+                    self.begin_at_output(place)?
+                } else {
+                    Reached::Nothing
+                }
             }
             NetworkEvent::AtHost(packet) => {
                 self.flow.deliver(&packet);
@@ -189,5 +181,21 @@ impl PacketPaths {
             }
         };
         Ok(Some(reached))
+    }
+
+    /// Counting begins anew.
+    pub(crate) fn restart(&mut self)
+        ensures agenda { self.new.flow.agenda ≡ self.old.flow.agenda }
+        ensures census { self.new.flow.census ≡ self.old.flow.census }
+        ensures cards { waiting_at_all self.new.cards.items ≡ waiting_at_all self.old.cards.items }
+        ensures outputs { waiting_at_all self.new.outputs.items ≡ waiting_at_all self.old.outputs.items }
+        ensures down { self.new.down ≡ no_bytes }
+        ensures given { IsAsGiven self.old self.new }
+    {
+        let now = self.flow.agenda.now();
+        restart_all(self.cards.as_mut_slice(), now);
+        restart_all(self.outputs.as_mut_slice(), now);
+        restart_spans(self.flow.receivers.as_mut_slice(), now);
+        self.down = Down::new();
     }
 }

@@ -1,7 +1,7 @@
 // Packets whose ways are worked out by hand. A byte takes 800 ps; a link 700 ns; the switch 250 ns; a host 100 ns.
 ghost use Rattle.std.specs.Prelude.{◌<◌};
 
-use crate::{Fates, PacketNetwork, Reached, SimPacket, Task, PacketCause};
+use crate::{Fates, PacketCause, PacketNetwork, Reached, SimPacket, Task};
 use experiment::{PacketName, read};
 use homa_io::MemSource;
 use homa_plain::HostId;
@@ -81,7 +81,10 @@ fn a_packet_alone_takes_its_time(rt: HostRuntime) {
     assert_eq!(&rt; network.next(), Ok(Some(Reached::Task(Task::Clock))));
     assert!(&rt; network.send(packet(0, 1, 1000, 7)).is_ok());
     assert_eq!(&rt; network.under_way(), 1);
-    assert_eq!(&rt; arrivals(&mut network), (1, 7, 5_000 + 2 * (800_000 + 700_000) + 250_000 + 100_000));
+    assert_eq!(&rt;
+        arrivals(&mut network),
+        (1, 7, 5_000 + 2 * (800_000 + 700_000) + 250_000 + 100_000)
+    );
     assert_eq!(&rt; network.card_taken(HostId(0)), 800_000);
     end(&rt, &network, (1, 0, 0));
     network.was_too_old();
@@ -96,10 +99,19 @@ fn a_full_output_drops_the_last(rt: HostRuntime) {
     assert!(&rt; network.send(packet(0, 3, 600, 1)).is_ok());
     assert!(&rt; network.send(packet(1, 3, 600, 2)).is_ok());
     assert!(&rt; network.send(packet(2, 3, 600, 3)).is_ok());
-    assert_eq!(&rt; arrivals(&mut network), (2, 5, 3 * 480_000 + 1_400_000 + 350_000));
+    assert_eq!(&rt;
+        arrivals(&mut network),
+        (2, 5, 3 * 480_000 + 1_400_000 + 350_000)
+    );
     end(&rt, &network, (2, 0, 1));
-    assert_eq!(&rt; (network.outputs().begun, network.outputs().waited), (2, 480_000));
-    assert_eq!(&rt; (network.level(0).passed, network.down().control), (1200, 1200));
+    assert_eq!(&rt;
+        (network.outputs().begun, network.outputs().waited),
+        (2, 480_000)
+    );
+    assert_eq!(&rt;
+        (network.level(0).passed, network.down().control),
+        (1200, 1200)
+    );
 }
 
 #[test]
@@ -115,7 +127,10 @@ fn the_fewest_bytes_left_go_first(rt: HostRuntime) {
     end(&rt, &network, (3, 0, 0));
     assert_eq!(&rt; network.cards().weighted, 3 * 80_000 * 100);
     network.restart();
-    assert_eq!(&rt; (network.cards().begun, network.card_taken(HostId(0))), (0, 0));
+    assert_eq!(&rt;
+        (network.cards().begun, network.card_taken(HostId(0))),
+        (0, 0)
+    );
 }
 
 // Sends so many packets from one host, forth or back by their names.
@@ -128,7 +143,10 @@ fn send_all(rt: &impl Abort, network: &mut PacketNetwork, is_forth: bool) {
 
 #[test]
 fn draws_go_by_the_name(rt: HostRuntime) {
-    let (first, second) = ("loss 300000\n", "loss 300000\njitter 900\nrepeat 1000000\nswitch 1\n");
+    let (first, second) = (
+        "loss 300000\n",
+        "loss 300000\njitter 900\nrepeat 1000000\nswitch 1\n",
+    );
     let (Some(mut first), Some(mut second)) = (
         network(&rt, rt.alloc(), first),
         network(&rt, rt.alloc(), second),
@@ -141,5 +159,8 @@ fn draws_go_by_the_name(rt: HostRuntime) {
     let (twice, _, _) = arrivals(&mut second);
     assert!(&rt; 0 < many && many < 40);
     assert_eq!(&rt; twice, many.saturating_add(40));
-    assert_eq!(&rt; (first.fates().lost, second.fates().repeated), (second.fates().lost, 40));
+    assert_eq!(&rt;
+        (first.fates().lost, second.fates().repeated),
+        (second.fates().lost, 40)
+    );
 }

@@ -4,9 +4,9 @@ use Rattle.std.specs.Fmt.{decimal}
 use Rattle.homa_plain.specs.Text.{id_word}
 use Rattle.call_figures.specs.declared.ranks.Rank.{Rank}
 use Rattle.call_figures.specs.declared.ranks.Rank.TheVariants.{Few, Slower, At}
-use Rattle.simulate.specs.declared.cells.Cell.{Cell}
-use Rattle.simulate.specs.declared.cells.Cell.TheVariants.{Word, Number, Thousandths, Id, Empty}
-use Rattle.simulate.specs.declared.cells.Cell.TheVariants as cell
+use Rattle.simulate.specs.declared.cells.RowCell.{RowCell}
+use Rattle.simulate.specs.declared.cells.RowCell.TheVariants.{Word, Number, Thousandths, Id, Empty}
+use Rattle.simulate.specs.declared.cells.RowCell.TheVariants as cell
 
 -- so many 1000ths, with three digits behind the point
 abbrev pub thousandths : ℕ → List ℕ
@@ -19,7 +19,7 @@ rank_text Slower = codes "inf"
 rank_text (At n) = thousandths n
 
 -- what stands in a column of CSV
-abbrev pub cell_text : Cell → List ℕ
+abbrev pub cell_text : RowCell → List ℕ
 cell_text (Word word) = word.now
 cell_text (Number n) = decimal n
 cell_text (Thousandths n) = thousandths n
@@ -32,7 +32,7 @@ abbrev pub quoted : List ℕ → List ℕ
 quoted text = codes "\"" ++ text ++ codes "\""
 
 -- a value of JSON
-abbrev pub value_text : Cell → List ℕ
+abbrev pub value_text : RowCell → List ℕ
 value_text (Word word) = quoted word.now
 value_text (Number n) = decimal n
 value_text (Thousandths n) = thousandths n

@@ -11,7 +11,7 @@ use Rattle.simulate.specs.declared.words.CommandLine.{CommandLine}
 use Rattle.simulate.specs.declared.words.CommandLine.TheVariants.{Help, Ask, Wrong}
 use Rattle.simulate.specs.declared.words.Meaning.{Meaning}
 use Rattle.simulate.specs.declared.words.Meaning.TheVariants as means
-use Rattle.simulate.specs.declared.words.Said.{Said}
+use Rattle.simulate.specs.declared.words.WordsSoFar.{WordsSoFar}
 
 -- what a word says, if it is one of those that there are
 abbrev pub meaning_of : List ℕ → Option Meaning
@@ -27,7 +27,7 @@ meaning_of word =
     else None
 
 -- no word was read
-abbrev pub nothing_said : Said
+abbrev pub nothing_said : WordsSoFar
 nothing_said = record { report = None; is_json = false; tells_progress = false }
 
 -- whether a report has columns
@@ -43,17 +43,17 @@ abbrev pub form_of : Bool → Format
 form_of is_json = if is_json then Json else Csv
 
 -- what is asked where this report was said
-abbrev pub asked_for : Said → Report → CommandLine
+abbrev pub asked_for : WordsSoFar → Report → CommandLine
 asked_for said report =
     if said.is_json && not (has_columns report) then Wrong NoColumns
     else Ask (record { report = report; format = form_of said.is_json; tells_progress = said.tells_progress })
 
 -- what is asked where this was said
-abbrev pub answer_to : Said → CommandLine
-answer_to said = elim said.report [ None ↦ Wrong Missing | Some report ↦ asked_for said report ]
+abbrev pub answer_to : WordsSoFar → CommandLine
+answer_to said = elim (said.report) [ None ↦ Wrong Missing | Some report ↦ asked_for said report ]
 
 -- what is said with one word more, or that the one behind so many words ends the command line
-abbrev pub step : Said → ℕ → Option Meaning → Result Said CommandLine
+abbrev pub step : WordsSoFar → ℕ → Option Meaning → Result WordsSoFar CommandLine
 step said at None = Err (Wrong (Unknown at))
 step said at (Some means.Help) = Err Help
 step said at (Some means.Json) = if said.is_json then Err (Wrong (Twice at)) else Ok (record said { is_json = true })
@@ -62,9 +62,9 @@ step said at (Some (means.Print report)) =
     if is_some said.report then Err (Wrong (Twice at)) else Ok (record said { report = Some report })
 
 -- what words say behind so many others, which said this
-abbrev pub read_on : Said → ℕ → List (Bor (List ℕ)) → CommandLine
+abbrev pub read_on : WordsSoFar → ℕ → List (Bor (List ℕ)) → CommandLine
 read_on said at [] = answer_to said
-read_on said at (word ∷ words) = elim step said at (meaning_of word.now) [ Err answer ↦ answer | Ok next ↦ read_on next (at + 1) words ]
+read_on said at (word ∷ words) = elim (step said at (meaning_of word.now)) [ Err answer ↦ answer | Ok next ↦ read_on next (at + 1) words ]
 
 -- what a command line says
 abbrev pub command_line : List (Bor (List ℕ)) → CommandLine

@@ -2,7 +2,7 @@
 use crate::ended::Ended;
 use crate::progress::Hearing;
 use crate::running::{Job, run};
-use crate::words::Asked;
+use crate::words::Wanted;
 use experiment::{Experiment, read};
 use homa_io::{HeldSink, Room, Sink, Source};
 use simulation::SimStop;
@@ -11,7 +11,7 @@ use std::alloc::Global;
 // Runs an experiment, and prints what is asked through a sink that holds lines back.
 fn print<K: Sink + Drop, E: Eprint, T: Hearing>(
     alloc: Global,
-    asked: Asked,
+    asked: Wanted,
     experiment: &Experiment,
     sink: K,
     notes: &E,
@@ -32,7 +32,7 @@ fn print<K: Sink + Drop, E: Eprint, T: Hearing>(
 /// Does what a command line asks: reads an experiment from the source, runs it, and prints what comes of it.
 pub(crate) fn answer<S: Source, K: Sink + Drop, E: Eprint, T: Hearing>(
     alloc: Global,
-    asked: Asked,
+    asked: Wanted,
     source: &mut S,
     sink: K,
     notes: &E,

@@ -2,7 +2,8 @@
 ghost use Rattle.std.specs.Prelude.{◌≡◌};
 ghost use Rattle.simulate.specs.Rows.{names};
 ghost use Rattle.simulate.specs.Columns.{call_names};
-use crate::cells::Cell;
+
+use crate::cells::RowCell;
 use crate::parts::nanos;
 use crate::rows::{Column, add_head, add_line, named};
 use crate::tally::waits_of;
@@ -25,10 +26,10 @@ fn end_word(end: CallEnd) -> &'static str {
 }
 
 // A moment in nanoseconds, if it came.
-fn moment(at: Option<u64>) -> Cell {
+fn moment(at: Option<u64>) -> RowCell {
     match at {
-        Some(at) => Cell::Number(nanos(at)),
-        None => Cell::Empty,
+        Some(at) => RowCell::Number(nanos(at)),
+        None => RowCell::Empty,
     }
 }
 
@@ -56,38 +57,33 @@ fn ended(call: &SimCall) -> Option<u64> {
 }
 
 // The columns of a call: moments and spans are nanoseconds.
-fn columns(
-    experiment: &Experiment,
-    outcome: &RunOutcome,
-    seed: u64,
-    call: &SimCall,
-) -> [Column; 21]
+fn columns(experiment: &Experiment, outcome: &RunOutcome, seed: u64, call: &SimCall) -> [Column; 21]
     ensures { names result ≡ call_names }
 {
     let waits = waits_of(outcome, call);
     let response = response_to(experiment, call.request);
     [
-        named("seed", Cell::Number(seed)),
-        named("id", Cell::Id(call.id)),
-        named("drawn", Cell::Number(u64::from(call.drawn))),
-        named("client", Cell::Number(u64::from(call.id.client.0))),
-        named("server", Cell::Number(u64::from(call.server.0))),
-        named("request", Cell::Number(u64::from(call.request))),
-        named("response", Cell::Number(u64::from(response))),
-        named("made", Cell::Number(nanos(call.made))),
+        named("seed", RowCell::Number(seed)),
+        named("id", RowCell::Id(call.id)),
+        named("drawn", RowCell::Number(u64::from(call.drawn))),
+        named("client", RowCell::Number(u64::from(call.id.client.0))),
+        named("server", RowCell::Number(u64::from(call.server.0))),
+        named("request", RowCell::Number(u64::from(call.request))),
+        named("response", RowCell::Number(u64::from(response))),
+        named("made", RowCell::Number(nanos(call.made))),
         named("first", moment(call.first)),
         named("ran", moment(call.ran)),
         named("ended", moment(ended(call))),
-        named("end", Cell::Word(end_word(call.end))),
-        named("alone", Cell::Number(nanos(alone(experiment, call)))),
-        named("slowdown", Cell::Rank(slowdown(experiment, call))),
-        named("resends", Cell::Number(u64::from(call.resends))),
-        named("again", Cell::Number(waits.again)),
-        named("controls", Cell::Number(u64::from(call.controls))),
-        named("card", Cell::Number(nanos(waits.in_card))),
-        named("output", Cell::Number(nanos(waits.at_output))),
-        named("grant", Cell::Number(nanos(waits.for_grant))),
-        named("credit", Cell::Number(nanos(waits.for_credit))),
+        named("end", RowCell::Word(end_word(call.end))),
+        named("alone", RowCell::Number(nanos(alone(experiment, call)))),
+        named("slowdown", RowCell::Rank(slowdown(experiment, call))),
+        named("resends", RowCell::Number(u64::from(call.resends))),
+        named("again", RowCell::Number(waits.again)),
+        named("controls", RowCell::Number(u64::from(call.controls))),
+        named("card", RowCell::Number(nanos(waits.in_card))),
+        named("output", RowCell::Number(nanos(waits.at_output))),
+        named("grant", RowCell::Number(nanos(waits.for_grant))),
+        named("credit", RowCell::Number(nanos(waits.for_credit))),
     ]
 }
 

@@ -10,8 +10,8 @@ use std::fmt;
 use std::fmt::Write;
 
 /// What stands in a column of a line.
-#[derive(Clone, Copy, Debug, PartialEq, Eq)]
-pub(crate) enum Cell {
+#[derive(Clone, Copy)]
+pub(crate) enum RowCell {
     /// A word of letters and digits.
     Word(&'static str),
     Number(u64),
@@ -26,7 +26,7 @@ pub(crate) enum Cell {
 }
 
 /// A number of 1000ths, which is printed with three digits behind the point.
-#[derive(Clone, Copy, Debug, PartialEq, Eq)]
+#[derive(Clone, Copy)]
 pub(crate) struct Thousandths(pub(crate) u64);
 
 impl fmt::Display for Thousandths {
@@ -60,22 +60,22 @@ fn add_id(text: &mut String, id: CallId) -> Result<(), AllocError>
 }
 
 /// Adds what stands in a column of CSV.
-pub(crate) fn add_cell(text: &mut String, cell: Cell) -> Result<(), AllocError>
+pub(crate) fn add_cell(text: &mut String, cell: RowCell) -> Result<(), AllocError>
     ensures { OnOk result (string_bytes text.new ≡ string_bytes text.old ++ cell_text cell) }
 {
     match cell {
-        Cell::Word(word) => text.push_str(word),
-        Cell::Number(n) => add_number(text, n),
-        Cell::Thousandths(n) | Cell::Rank(Rank::At(n)) => add_thousandths(text, n),
-        Cell::Id(id) => add_id(text, id),
-        Cell::Rank(Rank::Few) => text.push_str("-"),
-        Cell::Rank(Rank::Slower) => text.push_str("inf"),
-        Cell::Empty => Ok(()),
+        RowCell::Word(word) => text.push_str(word),
+        RowCell::Number(n) => add_number(text, n),
+        RowCell::Thousandths(n) | RowCell::Rank(Rank::At(n)) => add_thousandths(text, n),
+        RowCell::Id(id) => add_id(text, id),
+        RowCell::Rank(Rank::Few) => text.push_str("-"),
+        RowCell::Rank(Rank::Slower) => text.push_str("inf"),
+        RowCell::Empty => Ok(()),
     }
 }
 
 // Adds a text of JSON.
-fn add_quoted(text: &mut String, cell: Cell) -> Result<(), AllocError>
+fn add_quoted(text: &mut String, cell: RowCell) -> Result<(), AllocError>
     ensures { OnOk result (string_bytes text.new ≡ string_bytes text.old ++ quoted (cell_text cell)) }
 {
     text.push_str("\"")?;
@@ -84,12 +84,14 @@ fn add_quoted(text: &mut String, cell: Cell) -> Result<(), AllocError>
 }
 
 /// Adds a value of JSON: null for what isn't known.
-pub(crate) fn add_value(text: &mut String, cell: Cell) -> Result<(), AllocError>
+pub(crate) fn add_value(text: &mut String, cell: RowCell) -> Result<(), AllocError>
     ensures { OnOk result (string_bytes text.new ≡ string_bytes text.old ++ value_text cell) }
 {
     match cell {
-        Cell::Word(_) | Cell::Id(_) | Cell::Rank(Rank::Slower) => add_quoted(text, cell),
-        Cell::Rank(Rank::Few) | Cell::Empty => text.push_str("null"),
-        Cell::Number(_) | Cell::Thousandths(_) | Cell::Rank(Rank::At(_)) => add_cell(text, cell),
+        RowCell::Word(_) | RowCell::Id(_) | RowCell::Rank(Rank::Slower) => add_quoted(text, cell),
+        RowCell::Rank(Rank::Few) | RowCell::Empty => text.push_str("null"),
+        RowCell::Number(_) | RowCell::Thousandths(_) | RowCell::Rank(Rank::At(_)) => add_cell(
+            text, cell,
+        ),
     }
 }

@@ -7,7 +7,7 @@ use experiment::ExperimentFault;
 use simulation::SimStop;
 
 /// How a command line ended.
-#[derive(Clone, Copy, Debug, PartialEq, Eq)]
+#[derive(Clone, Copy)]
 pub(crate) enum Ended {
     /// All was printed.
     Printed,

@@ -45,14 +45,14 @@ impl fmt::Display for InWords {
     }
 }
 
-/// Why the program ended, in words; with the words of its command line.
+/// EndReason the program ended, in words; with the words of its command line.
 #[derive(Drop)]
-pub(crate) struct Why<'a> {
+pub(crate) struct EndReason<'a> {
     pub(crate) ended: Ended,
     pub(crate) words: &'a [&'a str],
 }
 
-// Why a run stopped, in words.
+// EndReason a run stopped, in words.
 fn stop_words(stop: SimStop) -> &'static str {
     match stop {
         SimStop::NoMemory => "there is no memory",
@@ -63,7 +63,7 @@ fn stop_words(stop: SimStop) -> &'static str {
     }
 }
 
-impl Why<'_> {
+impl EndReason<'_> {
     // The word of the command line at this place.
     fn word(&self, at: usize) -> &str {
         match self.words.get(at) {
@@ -73,7 +73,7 @@ impl Why<'_> {
     }
 }
 
-impl fmt::Display for Why<'_> {
+impl fmt::Display for EndReason<'_> {
     fn fmt<W: fmt::Write>(&self, f: &mut fmt::Formatter<W>) -> fmt::Result {
         match self.ended {
             Ended::Printed | Ended::Helped => f.write_str("all is printed"),

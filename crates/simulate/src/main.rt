@@ -16,6 +16,8 @@ mod running;
 mod slowdown_rows;
 mod summary;
 mod tally;
+#[cfg(test)]
+mod tests;
 mod totals;
 mod values;
 mod warnings;
@@ -23,16 +25,17 @@ mod words;
 
 use crate::answering::answer;
 use crate::ended::Ended;
-use crate::faults::Why;
-use crate::progress::{Progress, Silence};
-use crate::words::{Asked, CommandLine, read_words};
+use crate::faults::EndReason;
+use crate::progress::{RunProgress, Silence};
+use crate::words::{CommandLine, Wanted, read_words};
 use homa_io::{StdSink, StdSource};
 use simulation::SimStop;
 use std::alloc::AllocError;
 use std::process::ExitCode;
 use std::{env, io};
 
-const USAGE: &str = "usage: homa-simulate summary | figures | totals | calls | schedule [--json] [--progress] < EXPERIMENT";
+const USAGE: &str =
+    "usage: homa-simulate summary | figures | totals | calls | schedule [--json] [--progress] < EXPERIMENT";
 
 // The command line without the program's name; no words if one of them isn't UTF-8.
 fn command_line(rt: &HostRuntime) -> Result<Vec<String>, AllocError> {
@@ -49,11 +52,18 @@ fn command_line(rt: &HostRuntime) -> Result<Vec<String>, AllocError> {
 }
 
 // Runs what is asked over standard input and output.
-fn ask(rt: &HostRuntime, asked: Asked) -> Ended {
+fn ask(rt: &HostRuntime, asked: Wanted) -> Ended {
     let mut source = StdSource::new(rt.reader());
     let sink = StdSink::new(io::writer(rt));
     if asked.tells_progress {
-        answer(rt.alloc(), asked, &mut source, sink, rt, &mut Progress::new(rt))
+        answer(
+            rt.alloc(),
+            asked,
+            &mut source,
+            sink,
+            rt,
+            &mut RunProgress::new(rt),
+        )
     } else {
         answer(rt.alloc(), asked, &mut source, sink, rt, &mut Silence)
     }
@@ -75,7 +85,7 @@ fn carry_out(rt: &HostRuntime, words: &[&str]) -> Ended {
 fn tell(rt: &HostRuntime, words: &[&str]) -> Ended {
     let ended = carry_out(rt, words);
     if ended.status() != 0 {
-        let why = Why { ended, words };
+        let why = EndReason { ended, words };
         let _ = eprintln!(rt; "homa-simulate: {why}");
     }
     ended

@@ -13,7 +13,7 @@ pub(crate) trait Hearing: Telling {
 
 /// Tells how far a run has come, at most once a second.
 #[derive(Drop)]
-pub(crate) struct Progress<'a, R> {
+pub(crate) struct RunProgress<'a, R> {
     rt: &'a R,
     // When it began; it tells nothing if nobody asked.
     began: Option<Instant>,
@@ -23,10 +23,10 @@ pub(crate) struct Progress<'a, R> {
     told: u64,
 }
 
-impl<'a, R: Clock + Eprint> Progress<'a, R> {
+impl<'a, R: Clock + Eprint> RunProgress<'a, R> {
     /// That of runs that begin now.
-    pub(crate) fn new(rt: &'a R) -> Progress<'a, R> {
-        Progress {
+    pub(crate) fn new(rt: &'a R) -> RunProgress<'a, R> {
+        RunProgress {
             rt,
             began: Instant::now(rt).ok(),
             seed: 0,
@@ -56,7 +56,7 @@ impl<'a, R: Clock + Eprint> Progress<'a, R> {
     }
 }
 
-impl<R: Clock + Eprint> Telling for Progress<'_, R> {
+impl<R: Clock + Eprint> Telling for RunProgress<'_, R> {
     ghost hears = { λ a far b. Unit {0} };
 
     fn tell(&mut self, far: &Far) {
@@ -64,7 +64,7 @@ impl<R: Clock + Eprint> Telling for Progress<'_, R> {
     }
 }
 
-impl<R: Clock + Eprint> Hearing for Progress<'_, R> {
+impl<R: Clock + Eprint> Hearing for RunProgress<'_, R> {
     fn begin(&mut self, seed: u64, calls: u64) {
         self.seed = seed;
         self.calls = calls;

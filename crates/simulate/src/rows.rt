@@ -3,27 +3,27 @@ ghost use Rattle.std.specs.Prelude.{◌≡◌, ◌++◌, OnOk, string_bytes};
 ghost use Rattle.std.specs.List.{flat_map};
 ghost use Rattle.simulate.specs.Rows.{part_text, next_part, row_text, head_text, line_text};
 
-use crate::cells::{Cell, add_cell, add_value};
+use crate::cells::{RowCell, add_cell, add_value};
 use crate::words::Format;
 use std::alloc::AllocError;
 
 /// A column of a line: its name, and what stands in it.
-#[derive(Clone, Copy, Debug, PartialEq, Eq)]
+#[derive(Clone, Copy)]
 pub(crate) struct Column {
     pub(crate) name: &'static str,
-    pub(crate) cell: Cell,
+    pub(crate) cell: RowCell,
 }
 
 // What a line has of its columns: their names, what stands in them, or both.
-#[derive(Clone, Copy, Debug, PartialEq, Eq)]
-enum Form {
+#[derive(Clone, Copy)]
+enum LineForm {
     Names,
     Cells,
     Fields,
 }
 
 /// A column with this name.
-pub(crate) fn named(name: &'static str, cell: Cell) -> Column
+pub(crate) fn named(name: &'static str, cell: RowCell) -> Column
     ensures name { result.name.now ≡ name.now }
     ensures cell { result.cell ≡ cell }
 {
@@ -32,7 +32,7 @@ pub(crate) fn named(name: &'static str, cell: Cell) -> Column
 
 // Adds a name with its value.
 fn add_field(text: &mut String, column: &Column) -> Result<(), AllocError>
-    ensures { OnOk result (string_bytes text.new ≡ string_bytes text.old ++ part_text Form.Fields column.now) }
+    ensures { OnOk result (string_bytes text.new ≡ string_bytes text.old ++ part_text LineForm.Fields column.now) }
 {
     text.push_str("\"")?;
     text.push_str(column.name)?;
@@ -41,18 +41,18 @@ fn add_field(text: &mut String, column: &Column) -> Result<(), AllocError>
 }
 
 // Adds what a form has of a column.
-fn add_part(text: &mut String, form: Form, column: &Column) -> Result<(), AllocError>
+fn add_part(text: &mut String, form: LineForm, column: &Column) -> Result<(), AllocError>
     ensures { OnOk result (string_bytes text.new ≡ string_bytes text.old ++ part_text form column.now) }
 {
     match form {
-        Form::Names => text.push_str(column.name),
-        Form::Cells => add_cell(text, column.cell),
-        Form::Fields => add_field(text, column),
+        LineForm::Names => text.push_str(column.name),
+        LineForm::Cells => add_cell(text, column.cell),
+        LineForm::Fields => add_field(text, column),
     }
 }
 
 // Adds that of columns, each behind a comma.
-fn add_others(text: &mut String, form: Form, columns: &[Column]) -> Result<(), AllocError>
+fn add_others(text: &mut String, form: LineForm, columns: &[Column]) -> Result<(), AllocError>
     ensures { OnOk result (string_bytes text.new ≡ string_bytes text.old ++ flat_map (next_part form) columns.now) }
 {
     for column in columns {
@@ -63,7 +63,7 @@ fn add_others(text: &mut String, form: Form, columns: &[Column]) -> Result<(), A
 }
 
 // Adds that of columns, with commas between them.
-fn add_row(text: &mut String, form: Form, columns: &[Column]) -> Result<(), AllocError>
+fn add_row(text: &mut String, form: LineForm, columns: &[Column]) -> Result<(), AllocError>
     ensures { OnOk result (string_bytes text.new ≡ string_bytes text.old ++ row_text form columns.now) }
 {
     match columns {
@@ -85,7 +85,7 @@ pub(crate) fn add_head(
 {
     match format {
         Format::Csv => {
-            add_row(text, Form::Names, columns)?;
+            add_row(text, LineForm::Names, columns)?;
             text.push_str("\n")
         }
         Format::Json => Ok(()),
@@ -102,12 +102,12 @@ pub(crate) fn add_line(
 {
     match format {
         Format::Csv => {
-            add_row(text, Form::Cells, columns)?;
+            add_row(text, LineForm::Cells, columns)?;
             text.push_str("\n")
         }
         Format::Json => {
             text.push_str("{")?;
-            add_row(text, Form::Fields, columns)?;
+            add_row(text, LineForm::Fields, columns)?;
             text.push_str("}\n")
         }
     }

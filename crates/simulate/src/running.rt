@@ -6,7 +6,7 @@ use crate::summary::{add_means, add_summary};
 use crate::totals::add_totals;
 use crate::values::values;
 use crate::warnings::{Warning, from_memory, halves_apart, many_cutoffs, rate_over_link};
-use crate::words::{Asked, Report};
+use crate::words::{Report, Wanted};
 use call_figures::Figures;
 use experiment::Experiment;
 use homa_io::{Sink, write_all};
@@ -22,7 +22,7 @@ use std::fmt::Write;
 pub(crate) struct Job<'a> {
     pub(crate) alloc: Global,
     pub(crate) experiment: &'a Experiment,
-    pub(crate) asked: Asked,
+    pub(crate) asked: Wanted,
 }
 
 // The run of a seed. If a schedule is asked, the sink takes its events.
@@ -41,7 +41,7 @@ fn run_of<K: Sink, T: Hearing>(
         seed,
         services,
         sink,
-        job.asked.report == Report::Schedule,
+        matches!(job.asked.report, Report::Schedule),
         telling,
     )
 }
@@ -57,18 +57,14 @@ fn warn<E: Eprint>(
         return Ok(());
     };
     let _ = eprintln!(notes; "homa-simulate: warning: {warning}");
-    if job.asked.report == Report::Summary {
+    if matches!(job.asked.report, Report::Summary) {
         writeln!(text, "warning: {warning}")?;
     }
     Ok(())
 }
 
 // Adds all values of the experiment, and the warnings that they give.
-fn add_beginning<E: Eprint>(
-    job: &Job<'_>,
-    text: &mut String,
-    notes: &E,
-) -> Result<(), AllocError> {
+fn add_beginning<E: Eprint>(job: &Job<'_>, text: &mut String, notes: &E) -> Result<(), AllocError> {
     let memory = from_memory(job.experiment);
     let note = match job.asked.report {
         Report::Summary => None,
@@ -142,7 +138,7 @@ fn put_run<K: Sink, E: Eprint, T: Hearing>(
     let figures = Figures::of(job.alloc, job.experiment, outcome.measured(load))?;
     add_run(job, text, &outcome, &figures, at)?;
     put(sink, text)?;
-    if job.asked.report == Report::Calls {
+    if matches!(job.asked.report, Report::Calls) {
         put_calls(job, sink, text, &outcome, seed)?;
     }
     warn(job, text, notes, many_cutoffs(seed, &outcome.window))?;

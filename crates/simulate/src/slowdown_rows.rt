@@ -2,14 +2,15 @@
 ghost use Rattle.std.specs.Prelude.{◌≡◌};
 ghost use Rattle.simulate.specs.Rows.{names};
 ghost use Rattle.simulate.specs.Columns.{slowdown_names};
-use crate::cells::Cell;
+
+use crate::cells::RowCell;
 use crate::rows::{Column, add_head, add_line, named};
 use crate::words::Format;
 use call_figures::{Figures, Interval, Rank, Slowdowns};
 use std::alloc::{AllocError, Global};
 
 /// Which of the calls that were measured a line is about.
-#[derive(Clone, Copy, Debug, PartialEq, Eq)]
+#[derive(Clone, Copy)]
 pub(crate) enum Group {
     /// Those of one part of the lengths, counted from 0.
     Part(usize),
@@ -22,12 +23,12 @@ pub(crate) enum Group {
 
 impl Group {
     // Its name.
-    fn cell(self) -> Cell {
+    fn cell(self) -> RowCell {
         match self {
-            Group::Part(part) => Cell::Number((part as u64).saturating_add(1)),
-            Group::All => Cell::Word("all"),
-            Group::First => Cell::Word("half1"),
-            Group::Second => Cell::Word("half2"),
+            Group::Part(part) => RowCell::Number((part as u64).saturating_add(1)),
+            Group::All => RowCell::Word("all"),
+            Group::First => RowCell::Word("half1"),
+            Group::Second => RowCell::Word("half2"),
         }
     }
 
@@ -43,7 +44,7 @@ impl Group {
 }
 
 /// A range of lengths over one or several seeds: the three ranks with their intervals, of which a single seed has none.
-#[derive(Clone, Copy, Debug, PartialEq, Eq)]
+#[derive(Clone, Copy)]
 pub(crate) struct Spread {
     pub(crate) from: u32,
     pub(crate) to: u32,
@@ -145,22 +146,22 @@ pub(crate) fn spread_over(
 }
 
 // The columns of a group.
-fn columns(seed: Cell, group: Group, it: &Spread) -> [Column; 12]
+fn columns(seed: RowCell, group: Group, it: &Spread) -> [Column; 12]
     ensures { names result ≡ slowdown_names }
 {
     [
         named("seed", seed),
         named("part", group.cell()),
-        named("from", Cell::Number(u64::from(it.from))),
-        named("to", Cell::Number(u64::from(it.to))),
-        named("count", Cell::Number(it.count)),
-        named("done", Cell::Number(it.done)),
-        named("p50", Cell::Rank(it.p50.mean)),
-        named("p50_off", Cell::Rank(it.p50.off)),
-        named("p99", Cell::Rank(it.p99.mean)),
-        named("p99_off", Cell::Rank(it.p99.off)),
-        named("p999", Cell::Rank(it.p999.mean)),
-        named("p999_off", Cell::Rank(it.p999.off)),
+        named("from", RowCell::Number(u64::from(it.from))),
+        named("to", RowCell::Number(u64::from(it.to))),
+        named("count", RowCell::Number(it.count)),
+        named("done", RowCell::Number(it.done)),
+        named("p50", RowCell::Rank(it.p50.mean)),
+        named("p50_off", RowCell::Rank(it.p50.off)),
+        named("p99", RowCell::Rank(it.p99.mean)),
+        named("p99_off", RowCell::Rank(it.p99.off)),
+        named("p999", RowCell::Rank(it.p999.mean)),
+        named("p999_off", RowCell::Rank(it.p999.off)),
     ]
 }
 
@@ -176,7 +177,7 @@ fn add_group(
         Some(it) => add_line(
             text,
             format,
-            &columns(Cell::Number(seed), group, &spread_of(&it)),
+            &columns(RowCell::Number(seed), group, &spread_of(&it)),
         ),
         None => Ok(()),
     }
@@ -191,11 +192,7 @@ fn add_spread(
     group: Group,
 ) -> Result<(), AllocError> {
     match spread_over(alloc, all, group)? {
-        Some(spread) => add_line(
-            text,
-            format,
-            &columns(Cell::Word("all"), group, &spread),
-        ),
+        Some(spread) => add_line(text, format, &columns(RowCell::Word("all"), group, &spread)),
         None => Ok(()),
     }
 }
@@ -207,7 +204,7 @@ pub(crate) fn add_slowdown_head(
     figures: &Figures,
 ) -> Result<(), AllocError> {
     let spread = spread_of(&figures.all);
-    add_head(text, format, &columns(Cell::Empty, Group::All, &spread))
+    add_head(text, format, &columns(RowCell::Empty, Group::All, &spread))
 }
 
 /// Adds the lines of a run.

@@ -1,9 +1,9 @@
 // A page for people.
-use crate::cells::{Cell, Thousandths, add_cell};
+use crate::cells::{RowCell, Thousandths, add_cell};
 use crate::parts::{mean, nanos, part};
 use crate::slowdown_rows::{Group, Spread, spread_of, spread_over};
 use crate::tally::Tally;
-use crate::totals::{Parts, Queue, passed, span};
+use crate::totals::{LinkParts, Queue, passed, span};
 use call_figures::{Figures, Interval};
 use experiment::Experiment;
 use simulated_network::{RunOutcome, Waits, Window};
@@ -16,7 +16,7 @@ fn add_taken(
     experiment: &Experiment,
     window: &Window,
 ) -> Result<(), AllocError> {
-    let it = Parts::of(experiment, window);
+    let it = LinkParts::of(experiment, window);
     let (asked, offered) = (
         Thousandths(u64::from(experiment.load.load)),
         Thousandths(it.offered),
@@ -28,7 +28,10 @@ fn add_taken(
     );
     let (again, control) = (Thousandths(it.again), Thousandths(it.control));
     let (host, hot) = (window.hottest.0.0, Thousandths(it.hot));
-    writeln!(text, "  load      asked {asked}, offered {offered} (frames of requests and responses)")?;
+    writeln!(
+        text,
+        "  load      asked {asked}, offered {offered} (frames of requests and responses)"
+    )?;
     writeln!(
         text,
         "  links     taken {up} up, {down} down: data {data}, sent again {again}, control {control}"
@@ -37,12 +40,8 @@ fn add_taken(
 }
 
 // How the links to hosts were idle in the window.
-fn add_idle(
-    text: &mut String,
-    experiment: &Experiment,
-    window: &Window,
-) -> Result<(), AllocError> {
-    let it = Parts::of(experiment, window);
+fn add_idle(text: &mut String, experiment: &Experiment, window: &Window) -> Result<(), AllocError> {
+    let it = LinkParts::of(experiment, window);
     let (withheld, wasted) = (Thousandths(it.withheld), Thousandths(it.wasted));
     let (coming, unsent, empty) = (
         Thousandths(it.coming),
@@ -84,12 +83,7 @@ fn add_calls(
 }
 
 // What waited in the cards or at the outputs.
-fn add_queue(
-    text: &mut String,
-    name: &str,
-    waits: &Waits,
-    time: u128,
-) -> Result<(), AllocError> {
+fn add_queue(text: &mut String, name: &str, waits: &Waits, time: u128) -> Result<(), AllocError> {
     let Queue {
         most,
         mean,
@@ -139,7 +133,7 @@ fn add_fates(text: &mut String, outcome: &RunOutcome) -> Result<(), AllocError> 
 fn add_right(
     alloc: Global,
     text: &mut String,
-    cell: Cell,
+    cell: RowCell,
     width: usize,
 ) -> Result<(), AllocError> {
     let mut word = String::new(alloc);
@@ -152,9 +146,9 @@ fn add_right(
 
 // Adds a rank with its interval.
 fn add_interval(alloc: Global, text: &mut String, it: &Interval) -> Result<(), AllocError> {
-    add_right(alloc, text, Cell::Rank(it.mean), 11)?;
+    add_right(alloc, text, RowCell::Rank(it.mean), 11)?;
     text.push_str(" +- ")?;
-    add_right(alloc, text, Cell::Rank(it.off), 7)
+    add_right(alloc, text, RowCell::Rank(it.off), 7)
 }
 
 // Adds the name of a group of calls: the lengths of a part.
@@ -165,12 +159,12 @@ fn add_group(
     it: &Spread,
 ) -> Result<(), AllocError> {
     match group {
-        Group::Part(_) => add_right(alloc, text, Cell::Number(u64::from(it.to)), 14)?,
-        Group::All => add_right(alloc, text, Cell::Word("all"), 14)?,
-        Group::First => add_right(alloc, text, Cell::Word("first half"), 14)?,
-        Group::Second => add_right(alloc, text, Cell::Word("second half"), 14)?,
+        Group::Part(_) => add_right(alloc, text, RowCell::Number(u64::from(it.to)), 14)?,
+        Group::All => add_right(alloc, text, RowCell::Word("all"), 14)?,
+        Group::First => add_right(alloc, text, RowCell::Word("first half"), 14)?,
+        Group::Second => add_right(alloc, text, RowCell::Word("second half"), 14)?,
     }
-    add_right(alloc, text, Cell::Number(it.count), 10)
+    add_right(alloc, text, RowCell::Number(it.count), 10)
 }
 
 // Adds the line of a group in one run.
@@ -181,9 +175,9 @@ fn add_ranks(
     it: &Spread,
 ) -> Result<(), AllocError> {
     add_group(alloc, text, group, it)?;
-    add_right(alloc, text, Cell::Rank(it.p50.mean), 11)?;
-    add_right(alloc, text, Cell::Rank(it.p99.mean), 11)?;
-    add_right(alloc, text, Cell::Rank(it.p999.mean), 11)?;
+    add_right(alloc, text, RowCell::Rank(it.p50.mean), 11)?;
+    add_right(alloc, text, RowCell::Rank(it.p99.mean), 11)?;
+    add_right(alloc, text, RowCell::Rank(it.p999.mean), 11)?;
     text.push_str("\n")
 }
 
@@ -255,7 +249,10 @@ fn add_window(
     add_queue(text, "outputs  ", &window.outputs, window.links.time)?;
     add_levels(text, window)?;
     let (packets, cutoffs) = (window.packets, window.cutoffs);
-    writeln!(text, "  packets   {packets}, of which {cutoffs} are CUTOFFS")
+    writeln!(
+        text,
+        "  packets   {packets}, of which {cutoffs} are CUTOFFS"
+    )
 }
 
 /// Adds the page of a run.
@@ -285,7 +282,9 @@ pub(crate) fn add_means(
     parts: u32,
 ) -> Result<(), AllocError> {
     text.push_str("all seeds: slowdowns with 95% intervals\n")?;
-    text.push_str("  bytes up to     calls                   p50                   p99                 p99.9\n")?;
+    text.push_str(
+        "  bytes up to     calls                   p50                   p99                 p99.9\n",
+    )?;
     for part in 0..parts as usize {
         add_intervals_of(alloc, text, all, Group::Part(part))?;
     }

@@ -5,7 +5,7 @@ use call_figures::{CallEnd, SimCall, Transfer};
 use simulated_network::RunOutcome;
 
 /// How the calls that were measured ended, and for how long all of their pieces waited, in picoseconds.
-#[derive(Clone, Copy, Debug, PartialEq, Eq)]
+#[derive(Clone, Copy)]
 pub(crate) struct Tally {
     pub(crate) done: u64,
     pub(crate) failed: u64,
@@ -23,7 +23,7 @@ pub(crate) struct Tally {
 }
 
 /// The waits of both messages of a call, in picoseconds.
-#[derive(Clone, Copy, Debug, PartialEq, Eq)]
+#[derive(Clone, Copy)]
 pub(crate) struct CallWaits {
     pub(crate) response: u32,
     pub(crate) again: u64,

@@ -3,7 +3,8 @@ ghost use Rattle.std.specs.Prelude.{◌≡◌, IfOk};
 ghost use Rattle.simulate.specs.Rows.{names};
 ghost use Rattle.simulate.specs.Columns.{taken_names, ended_names, fates_names, queues_names, most_names, means_names, shares_names};
 ghost use Rattle.simulate.specs.Columns.{waits_names, totals_names};
-use crate::cells::Cell;
+
+use crate::cells::RowCell;
 use crate::parts::{mean, nanos, part};
 use crate::rows::{Column, add_head, add_line, named};
 use crate::tally::Tally;
@@ -14,7 +15,7 @@ use std::alloc::{AllocError, Global};
 
 /// What waited at all cards, or at all outputs: the most bytes at one of them; the mean of the bytes at one, by their sum
 /// over time and by the waits of packets; and the mean wait of a packet.
-#[derive(Clone, Copy, Debug, PartialEq, Eq)]
+#[derive(Clone, Copy)]
 pub(crate) struct Queue {
     pub(crate) most: u64,
     pub(crate) mean: u64,
@@ -23,8 +24,8 @@ pub(crate) struct Queue {
 }
 
 /// The numbers of a run's window as they are printed: parts of links are 1000ths.
-#[derive(Clone, Copy, Debug, PartialEq, Eq)]
-pub(crate) struct Parts {
+#[derive(Clone, Copy)]
+pub(crate) struct LinkParts {
     pub(crate) offered: u64,
     pub(crate) up: u64,
     pub(crate) down: u64,
@@ -56,9 +57,9 @@ impl Queue {
     }
 }
 
-impl Parts {
+impl LinkParts {
     /// Those of a run.
-    pub(crate) fn of(experiment: &Experiment, window: &Window) -> Parts {
+    pub(crate) fn of(experiment: &Experiment, window: &Window) -> LinkParts {
         let time = window.links.time;
         let byte = u128::from(experiment.network.byte);
         let span = u128::from(span(window));
@@ -72,7 +73,7 @@ impl Parts {
             wasted,
             ..
         } = window.links;
-        Parts {
+        LinkParts {
             offered: filled(window.offered),
             up: part(window.up, time),
             down: part(taken, time),
@@ -94,26 +95,26 @@ fn taken(experiment: &Experiment, outcome: &RunOutcome, seed: u64) -> [Column; 1
     ensures { names result ≡ taken_names }
 {
     let window = &outcome.window;
-    let parts = Parts::of(experiment, window);
+    let parts = LinkParts::of(experiment, window);
     let load = u64::from(experiment.load.load);
     [
-        named("seed", Cell::Number(seed)),
-        named("window_ns", Cell::Number(nanos(span(window)))),
-        named("run_ns", Cell::Number(nanos(outcome.ended))),
-        named("asked", Cell::Thousandths(load)),
-        named("offered", Cell::Thousandths(parts.offered)),
-        named("up", Cell::Thousandths(parts.up)),
-        named("down", Cell::Thousandths(parts.down)),
-        named("hot_host", Cell::Number(u64::from(window.hottest.0.0))),
-        named("hot_down", Cell::Thousandths(parts.hot)),
-        named("data", Cell::Thousandths(parts.data)),
-        named("again", Cell::Thousandths(parts.again)),
-        named("control", Cell::Thousandths(parts.control)),
-        named("withheld", Cell::Thousandths(parts.withheld)),
-        named("wasted", Cell::Thousandths(parts.wasted)),
-        named("coming", Cell::Thousandths(parts.coming)),
-        named("unsent", Cell::Thousandths(parts.unsent)),
-        named("empty", Cell::Thousandths(parts.empty)),
+        named("seed", RowCell::Number(seed)),
+        named("window_ns", RowCell::Number(nanos(span(window)))),
+        named("run_ns", RowCell::Number(nanos(outcome.ended))),
+        named("asked", RowCell::Thousandths(load)),
+        named("offered", RowCell::Thousandths(parts.offered)),
+        named("up", RowCell::Thousandths(parts.up)),
+        named("down", RowCell::Thousandths(parts.down)),
+        named("hot_host", RowCell::Number(u64::from(window.hottest.0.0))),
+        named("hot_down", RowCell::Thousandths(parts.hot)),
+        named("data", RowCell::Thousandths(parts.data)),
+        named("again", RowCell::Thousandths(parts.again)),
+        named("control", RowCell::Thousandths(parts.control)),
+        named("withheld", RowCell::Thousandths(parts.withheld)),
+        named("wasted", RowCell::Thousandths(parts.wasted)),
+        named("coming", RowCell::Thousandths(parts.coming)),
+        named("unsent", RowCell::Thousandths(parts.unsent)),
+        named("empty", RowCell::Thousandths(parts.empty)),
     ]
 }
 
@@ -122,14 +123,14 @@ fn ended(tally: &Tally, window: &Window) -> [Column; 8]
     ensures { names result ≡ ended_names }
 {
     [
-        named("done", Cell::Number(tally.done)),
-        named("failed", Cell::Number(tally.failed)),
-        named("open", Cell::Number(tally.still_open)),
-        named("resends", Cell::Number(tally.resends)),
-        named("again_bytes", Cell::Number(tally.again)),
-        named("bytes", Cell::Number(tally.bytes)),
-        named("packets", Cell::Number(window.packets)),
-        named("cutoffs", Cell::Number(window.cutoffs)),
+        named("done", RowCell::Number(tally.done)),
+        named("failed", RowCell::Number(tally.failed)),
+        named("open", RowCell::Number(tally.still_open)),
+        named("resends", RowCell::Number(tally.resends)),
+        named("again_bytes", RowCell::Number(tally.again)),
+        named("bytes", RowCell::Number(tally.bytes)),
+        named("packets", RowCell::Number(window.packets)),
+        named("cutoffs", RowCell::Number(window.cutoffs)),
     ]
 }
 
@@ -139,18 +140,18 @@ fn fates(outcome: &RunOutcome) -> [Column; 12]
 {
     let (fates, trouble) = (&outcome.fates, &outcome.trouble);
     [
-        named("sent", Cell::Number(fates.sent)),
-        named("repeated", Cell::Number(fates.repeated)),
-        named("delivered", Cell::Number(fates.delivered)),
-        named("lost", Cell::Number(fates.lost)),
-        named("full", Cell::Number(fates.full)),
-        named("old", Cell::Number(fates.old)),
-        named("under_way", Cell::Number(outcome.under_way)),
-        named("left_out", Cell::Number(trouble.left_out)),
-        named("dropped", Cell::Number(trouble.dropped)),
-        named("refused", Cell::Number(trouble.refused)),
-        named("held", Cell::Number(trouble.held)),
-        named("events", Cell::Number(outcome.events)),
+        named("sent", RowCell::Number(fates.sent)),
+        named("repeated", RowCell::Number(fates.repeated)),
+        named("delivered", RowCell::Number(fates.delivered)),
+        named("lost", RowCell::Number(fates.lost)),
+        named("full", RowCell::Number(fates.full)),
+        named("old", RowCell::Number(fates.old)),
+        named("under_way", RowCell::Number(outcome.under_way)),
+        named("left_out", RowCell::Number(trouble.left_out)),
+        named("dropped", RowCell::Number(trouble.dropped)),
+        named("refused", RowCell::Number(trouble.refused)),
+        named("held", RowCell::Number(trouble.held)),
+        named("events", RowCell::Number(outcome.events)),
     ]
 }
 
@@ -161,14 +162,14 @@ fn queues(window: &Window) -> [Column; 8]
     let cards = Queue::of(&window.cards, window.links.time);
     let outputs = Queue::of(&window.outputs, window.links.time);
     [
-        named("card_most", Cell::Number(cards.most)),
-        named("card_mean", Cell::Number(cards.mean)),
-        named("card_little", Cell::Number(cards.little)),
-        named("card_wait_ns", Cell::Number(cards.wait_ns)),
-        named("out_most", Cell::Number(outputs.most)),
-        named("out_mean", Cell::Number(outputs.mean)),
-        named("out_little", Cell::Number(outputs.little)),
-        named("out_wait_ns", Cell::Number(outputs.wait_ns)),
+        named("card_most", RowCell::Number(cards.most)),
+        named("card_mean", RowCell::Number(cards.mean)),
+        named("card_little", RowCell::Number(cards.little)),
+        named("card_wait_ns", RowCell::Number(cards.wait_ns)),
+        named("out_most", RowCell::Number(outputs.most)),
+        named("out_mean", RowCell::Number(outputs.mean)),
+        named("out_little", RowCell::Number(outputs.little)),
+        named("out_wait_ns", RowCell::Number(outputs.wait_ns)),
     ]
 }
 
@@ -176,7 +177,7 @@ fn queues(window: &Window) -> [Column; 8]
 fn most(window: &Window) -> [Column; 8]
     ensures { names result ≡ most_names }
 {
-    let most = |level: usize| Cell::Number(window.levels[level].most);
+    let most = |level: usize| RowCell::Number(window.levels[level].most);
     [
         named("most0", most(0)),
         named("most1", most(1)),
@@ -193,7 +194,7 @@ fn most(window: &Window) -> [Column; 8]
 fn means(window: &Window) -> [Column; 8]
     ensures { names result ≡ means_names }
 {
-    let mean = |level: usize| Cell::Number(mean(window.levels[level].area, window.links.time));
+    let mean = |level: usize| RowCell::Number(mean(window.levels[level].area, window.links.time));
     [
         named("mean0", mean(0)),
         named("mean1", mean(1)),
@@ -220,7 +221,10 @@ fn shares(window: &Window) -> [Column; 8]
     ensures { names result ≡ shares_names }
 {
     let all = passed(window);
-    let share = |level: usize| Cell::Thousandths(part(u128::from(window.levels[level].passed), all));
+    let share = |level: usize| RowCell::Thousandths(part(
+        u128::from(window.levels[level].passed),
+        all,
+    ));
     [
         named("share0", share(0)),
         named("share1", share(1)),
@@ -239,7 +243,7 @@ fn waits(tally: &Tally) -> [Column; 4]
     ensures { names result ≡ waits_names }
 {
     let count = u128::from(tally.count());
-    let wait = |sum: u128| Cell::Number(nanos(mean(sum, count)));
+    let wait = |sum: u128| RowCell::Number(nanos(mean(sum, count)));
     [
         named("call_card_ns", wait(tally.in_card)),
         named("call_out_ns", wait(tally.at_output)),

@@ -38,13 +38,13 @@ fn card_word(card: Card) -> &'static str {
 
 // The lines of an experiment, as comments of CSV or as texts of JSON.
 #[derive(Drop)]
-struct Lines {
+struct ValueLines {
     text: String,
     format: Format,
     is_first: bool,
 }
 
-impl Lines {
+impl ValueLines {
     // What stands before a line.
     fn begin(&mut self) -> Result<(), AllocError> {
         match (self.format, self.is_first) {
@@ -195,13 +195,13 @@ impl Lines {
 
 // Adds the lines behind which notes stand.
 fn lines_of(alloc: Global, format: Format, experiment: &Experiment) -> Result<String, AllocError> {
-    let mut lines = Lines {
+    let mut lines = ValueLines {
         text: String::new(alloc),
         format,
         is_first: true,
     };
     lines.all(experiment)?;
-    let Lines { text, .. } = lines;
+    let ValueLines { text, .. } = lines;
     Ok(text)
 }
 

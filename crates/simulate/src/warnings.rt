@@ -2,6 +2,7 @@
 ghost use Rattle.std.specs.Prelude.{◌≡◌, ◌<◌, ◌*◌, ◌↔◌, IsSome, IsTrue};
 ghost use Rattle.std.specs.Option.{option_map};
 ghost use Rattle.simulate.specs.Warnings.{carried, are_apart};
+
 use crate::cells::Thousandths;
 use crate::slowdown_rows::{Group, spread_over};
 use call_figures::{Figures, Interval, Rank};
@@ -11,16 +12,27 @@ use std::alloc::{AllocError, Global};
 use std::fmt;
 
 /// Why figures may not say what they seem to say.
-#[derive(Clone, Copy, Debug, PartialEq, Eq)]
+#[derive(Clone, Copy)]
 pub(crate) enum Warning {
     /// The lengths are those of one of the five workloads.
     FromMemory(u32),
     /// A host may send more bytes of payload a tick than its link carries.
-    RateOverLink { rate: u32, carries: u64 },
+    RateOverLink {
+        rate: u32,
+        carries: u64,
+    },
     /// More than a tenth of the packets of a seed's window are CUTOFFS.
-    Cutoffs { seed: u64, cutoffs: u64, packets: u64 },
+    Cutoffs {
+        seed: u64,
+        cutoffs: u64,
+        packets: u64,
+    },
     /// A rank of the halves of the calls differs by more than the intervals of both.
-    Halves { rank: &'static str, first: u64, second: u64 },
+    Halves {
+        rank: &'static str,
+        first: u64,
+        second: u64,
+    },
 }
 
 impl fmt::Display for Warning {
@@ -124,10 +136,7 @@ fn apart(rank: &'static str, first: &Interval, second: &Interval) -> Option<Warn
 }
 
 /// That the halves of the calls of all runs differ, in p50 or else in p99, if they do.
-pub(crate) fn halves_apart(
-    alloc: Global,
-    all: &[Figures],
-) -> Result<Option<Warning>, AllocError> {
+pub(crate) fn halves_apart(alloc: Global, all: &[Figures]) -> Result<Option<Warning>, AllocError> {
     let first = spread_over(alloc, all, Group::First)?;
     let second = spread_over(alloc, all, Group::Second)?;
     let (Some(first), Some(second)) = (first, second) else {

@@ -3,7 +3,7 @@ ghost use Rattle.std.specs.Prelude.{◌≡◌};
 ghost use Rattle.simulate.specs.Words.{meaning_of, has_columns, form_of, asked_for, answer_to, step, command_line};
 
 /// What is printed of the runs.
-#[derive(Clone, Copy, Debug, PartialEq, Eq)]
+#[derive(Clone, Copy)]
 pub(crate) enum Report {
     /// A page for people.
     Summary,
@@ -18,15 +18,15 @@ pub(crate) enum Report {
 }
 
 /// The form of lines with columns.
-#[derive(Clone, Copy, Debug, PartialEq, Eq)]
+#[derive(Clone, Copy)]
 pub(crate) enum Format {
     Csv,
     Json,
 }
 
 /// What is asked of the program.
-#[derive(Clone, Copy, Debug, PartialEq, Eq)]
-pub(crate) struct Asked {
+#[derive(Clone, Copy)]
+pub(crate) struct Wanted {
     pub(crate) report: Report,
     pub(crate) format: Format,
     /// Whether standard error tells how far a run has come.
@@ -34,7 +34,7 @@ pub(crate) struct Asked {
 }
 
 /// Why words ask for nothing that there is.
-#[derive(Clone, Copy, Debug, PartialEq, Eq)]
+#[derive(Clone, Copy)]
 pub(crate) enum WordFault {
     /// No word says what is printed.
     Missing,
@@ -47,24 +47,24 @@ pub(crate) enum WordFault {
 }
 
 /// What a command line says.
-#[derive(Clone, Copy, Debug, PartialEq, Eq)]
+#[derive(Clone, Copy)]
 pub(crate) enum CommandLine {
     /// Only how the program is called.
     Help,
-    Ask(Asked),
+    Ask(Wanted),
     Wrong(WordFault),
 }
 
 // What the words so far say.
-#[derive(Clone, Copy, Debug, PartialEq, Eq)]
-struct Said {
+#[derive(Clone, Copy)]
+struct WordsSoFar {
     report: Option<Report>,
     is_json: bool,
     tells_progress: bool,
 }
 
 // What a word says.
-#[derive(Clone, Copy, Debug, PartialEq, Eq)]
+#[derive(Clone, Copy)]
 enum Meaning {
     Print(Report),
     Json,
@@ -107,13 +107,13 @@ fn form_of(is_json: bool) -> Format
 }
 
 // What is asked where this report was said.
-fn asked_for(said: Said, report: Report) -> CommandLine
+fn asked_for(said: WordsSoFar, report: Report) -> CommandLine
     ensures { result ≡ asked_for said report }
 {
     if said.is_json && !has_columns(report) {
         return CommandLine::Wrong(WordFault::NoColumns);
     }
-    CommandLine::Ask(Asked {
+    CommandLine::Ask(Wanted {
         report,
         format: form_of(said.is_json),
         tells_progress: said.tells_progress,
@@ -121,7 +121,7 @@ fn asked_for(said: Said, report: Report) -> CommandLine
 }
 
 // What is asked where this was said.
-fn answer_to(said: Said) -> CommandLine
+fn answer_to(said: WordsSoFar) -> CommandLine
     ensures { result ≡ answer_to said }
 {
     match said.report {
@@ -131,7 +131,7 @@ fn answer_to(said: Said) -> CommandLine
 }
 
 // What is said with one word more, behind so many others; or what the command line says, if the word ends it.
-fn step(said: Said, at: usize, word: Option<Meaning>) -> Result<Said, CommandLine>
+fn step(said: WordsSoFar, at: usize, word: Option<Meaning>) -> Result<WordsSoFar, CommandLine>
     ensures { result ≡ step said at word }
 {
     let mut next = said;
@@ -150,7 +150,7 @@ fn step(said: Said, at: usize, word: Option<Meaning>) -> Result<Said, CommandLin
 pub(crate) fn read_words(words: &[&str]) -> CommandLine
     ensures { result ≡ command_line words.now }
 {
-    let mut said = Said {
+    let mut said = WordsSoFar {
         report: None,
         is_json: false,
         tells_progress: false,

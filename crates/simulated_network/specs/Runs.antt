@@ -1,5 +1,6 @@
 -- A run, as contracts see it.
-use Rattle.std.specs.Prelude.{◌≡◌, ℕ, ◌+◌, ◌-◌, ◌^◌, ◌<◌, ◌≤◌, List, [], ◌∷◌, Option, None, Some, length, map, min, nat_lt, ◌&&◌, if◌then◌else◌}
+use Rattle.std.specs.Prelude.{◌≡◌, ℕ, Bool, true, false, ◌+◌, ◌-◌, ◌^◌, ◌<◌, ◌≤◌, List, [], ◌∷◌, Option, None, Some, length, map, min, nat_lt, ◌&&◌}
+use Rattle.std.specs.Prelude.{if◌then◌else◌}
 use Rattle.homa_plain.specs.declared.id.CallId.{CallId}
 use Rattle.homa_plain.specs.declared.id.HostId.{HostId}
 use Rattle.homa_plain.specs.declared.event.Event.{Event}
@@ -54,12 +55,16 @@ abbrev pub sent_by : PlainEntry → Option SentDatagram → ℕ
 sent_by (PlainSend number from to inc role id level body payload) datagram = one_sent from to datagram
 sent_by _ datagram = 0
 
--- how many calls a step draws
-abbrev pub drawn_by : RunStep → ℕ
-drawn_by (step.Call client server bytes) = 1
-drawn_by step.Over = 0
-drawn_by step.Inside = 0
-drawn_by (step.Event event bytes) = 0
+-- a step asks for a call
+abbrev pub is_call : RunStep → Bool
+is_call (step.Call client server bytes) = true
+is_call step.Over = false
+is_call step.Inside = false
+is_call (step.Event event bytes) = false
+
+-- how many calls were drawn after a step: one more if it asks for a call, of at most 2^32 - 1 that are counted
+abbrev pub drawn_after : RunStep → ℕ → ℕ
+drawn_after s n = if is_call s then min (n + 1) (2 ^ 32 - 1) else n
 
 -- how many packets a step brings to their hosts
 abbrev pub delivered_by : RunStep → ℕ
@@ -73,8 +78,8 @@ bytes_of (step.Event event bytes) = bytes
 bytes_of step.Over = 0
 bytes_of step.Inside = 0
 
--- a step draws no call, brings no packet, and has at most 1,000,000 bytes beside it
+-- a step asks for no call, brings no packet, and has at most 1,000,000 bytes beside it
 pub record IsQuiet (s : RunStep) : Type 0 where
-  pub drawn : drawn_by s ≡ 0
+  pub call : is_call s ≡ false
   pub delivered : delivered_by s ≡ 0
   pub bytes : bytes_of s ≤ 1000000

@@ -299,11 +299,11 @@ impl<'a> KnownCalls<'a> {
             };
             return self.piece(packets.now(), call.drawn, piece);
         }
+        self.count(place, call, matches!(body, Body::Resend { .. }));
         let grant = grant_of(place, role, body);
         if let Some(grant) = grant {
             self.grants(packets, from, &grant);
         }
-        self.count(place, call, matches!(body, Body::Resend { .. }));
         PacketMark::control(call.drawn, call.controls, grant)
     }
 

@@ -1,7 +1,7 @@
 // A simulated network, which tells what happens next in the world, and heeds what the world tells.
-ghost use Rattle.std.specs.Prelude.{◌≡◌, ◌≤◌, ◌<◌, ◌+◌, ◌-◌, ◌^◌, [], length, min, IfOk};
+ghost use Rattle.std.specs.Prelude.{◌≡◌, ◌≤◌, ◌<◌, ◌+◌, [], length, false, IfOk};
 ghost use Rattle.packet_network.specs.Censuses.{no_fates, IsConserved};
-ghost use Rattle.simulated_network.specs.Runs.{all_made, drawn_by, delivered_by, bytes_of};
+ghost use Rattle.simulated_network.specs.Runs.{all_made, is_call, drawn_after, delivered_by, bytes_of};
 ghost use Rattle.simulated_network.specs.Troubles.{no_trouble, one_left_out};
 
 use crate::arrivals::Arrivals;
@@ -69,7 +69,9 @@ impl<'a> SimulatedNetwork<'a> {
         };
         network.packets.enter(experiment.network.tick, Task::Clock)?;
         network.enter_calls()?;
-        network.enter_marks()?;
+        network.enter_restarts()?;
+        network.enter_injections()?;
+        network.enter_shifts()?;
         Ok(network)
     }
 
@@ -93,19 +95,38 @@ impl<'a> SimulatedNetwork<'a> {
         Ok(())
     }
 
-    // What lines say that happens at a moment is due then.
-    fn enter_marks(&mut self) -> Result<(), NetworkStop>
+    // The restarts are due at their moments.
+    fn enter_restarts(&mut self) -> Result<(), NetworkStop>
         ensures { self.new ≡ self.old }
     {
-        let experiment = self.experiment;
-        for (i, restart) in experiment.restarts.iter().enumerate() {
-            self.packets.enter(restart.at, Task::Restart(i as u32))?;
+        let mut number: u32 = 0;
+        for restart in &self.experiment.restarts {
+            self.packets.enter(restart.at, Task::Restart(number))?;
+            number = number.saturating_add(1);
         }
-        for (i, injection) in experiment.injections.iter().enumerate() {
-            self.packets.enter(injection.at, Task::Inject(i as u32))?;
+        Ok(())
+    }
+
+    // The datagrams that no host sends are due at their moments.
+    fn enter_injections(&mut self) -> Result<(), NetworkStop>
+        ensures { self.new ≡ self.old }
+    {
+        let mut number: u32 = 0;
+        for injection in &self.experiment.injections {
+            self.packets.enter(injection.at, Task::Inject(number))?;
+            number = number.saturating_add(1);
         }
-        for (i, shift) in experiment.shifts.iter().enumerate() {
-            self.packets.enter(shift.at, Task::Shift(i as u32))?;
+        Ok(())
+    }
+
+    // The settings of clocks are due at their moments.
+    fn enter_shifts(&mut self) -> Result<(), NetworkStop>
+        ensures { self.new ≡ self.old }
+    {
+        let mut number: u32 = 0;
+        for shift in &self.experiment.shifts {
+            self.packets.enter(shift.at, Task::Shift(number))?;
+            number = number.saturating_add(1);
         }
         Ok(())
     }
@@ -148,7 +169,7 @@ impl<'a> SimulatedNetwork<'a> {
     /// What happens next; `tick` is that of the world's clock. It ends with `RunStep::Over`.
     pub fn next(&mut self, tick: u64) -> Result<RunStep, NetworkStop>
         ensures made { all_made self.new.calls ≡ all_made self.old.calls }
-        ensures drawn { IfOk result (λ step. self.new.drawn ≡ min (self.old.drawn + drawn_by step) (2 ^ 32 - 1)) }
+        ensures drawn { IfOk result (λ step. self.new.drawn ≡ drawn_after step self.old.drawn) }
         ensures delivered { IfOk result (λ step. self.new.network.fates.delivered ≡ self.old.network.fates.delivered + delivered_by step) }
         ensures sent { self.new.network.fates.sent ≡ self.old.network.fates.sent }
         ensures forth { self.old.network.moment ≤ self.new.network.moment }
@@ -182,7 +203,7 @@ impl<'a> SimulatedNetwork<'a> {
     fn arrives(&mut self, tick: u64, packet: &SimPacket) -> RunStep
         ensures made { all_made self.new.calls ≡ all_made self.old.calls }
         ensures drawn { self.new.drawn ≡ self.old.drawn }
-        ensures step { drawn_by result ≡ 0 }
+        ensures step { is_call result ≡ false }
         ensures bytes { bytes_of result ≡ 0 }
         ensures delivered { 0 < self.old.network.fates.delivered
             → self.new.network.fates.delivered + 1 ≡ self.old.network.fates.delivered + delivered_by result }

@@ -1,5 +1,5 @@
 // What came of a run.
-ghost use Rattle.std.specs.Prelude.{◌≡◌, ◌+◌};
+ghost use Rattle.std.specs.Prelude.{◌≡◌, ◌≤◌, length};
 ghost use Rattle.simulated_network.specs.Measured.{is_measured, before, measured};
 
 use crate::trouble::Trouble;
@@ -34,7 +34,8 @@ pub(crate) fn is_measured(load: &Load, drawn: u32) -> bool
 
 // How many calls from the first on have a lower number of those that were drawn.
 fn before(calls: &[SimCall], number: u32) -> usize
-    ensures { result ≡ before number calls.now }
+    ensures count { result ≡ before number calls.now }
+    ensures inside { result ≤ length calls.now }
 {
     let mut count = 0;
     for call in calls {

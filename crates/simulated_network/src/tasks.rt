@@ -1,10 +1,11 @@
 // What a task makes of the network, and what happens in the world then.
 ghost use Rattle.std.specs.Prelude.{◌≡◌, ◌≤◌, ◌+◌, ◌-◌, ◌^◌, min, IfOk};
 ghost use Rattle.simulated_network.specs.declared.step.RunStep.TheVariants as step;
-ghost use Rattle.simulated_network.specs.Runs.{drawn_by, delivered_by, bytes_of, IsQuiet};
+ghost use Rattle.simulated_network.specs.Runs.{drawn_after, delivered_by, bytes_of, IsQuiet};
 
 use crate::arrivals::DrawnCall;
 use crate::network::SimulatedNetwork;
+use crate::receivers::is_known;
 use crate::step::RunStep;
 use experiment::wire_of_call;
 use homa_plain::{Event, HostId};
@@ -21,9 +22,10 @@ impl SimulatedNetwork<'_> {
     /// A task begins.
     pub(crate) fn begins(&mut self, task: Task) -> Result<RunStep, NetworkStop>
         ensures calls { self.new.calls ≡ self.old.calls }
-        ensures network { self.new.network ≡ self.old.network }
+        ensures moment { self.new.network.moment ≡ self.old.network.moment }
+        ensures fates { self.new.network.fates ≡ self.old.network.fates }
         ensures left_out { self.new.trouble.left_out ≡ self.old.trouble.left_out }
-        ensures drawn { IfOk result (λ step. self.new.drawn ≡ min (self.old.drawn + drawn_by step) (2 ^ 32 - 1)) }
+        ensures drawn { IfOk result (λ step. self.new.drawn ≡ drawn_after step self.old.drawn) }
         ensures delivered { IfOk result (λ step. delivered_by step ≡ 0) }
         ensures bytes { IfOk result (λ step. bytes_of step ≤ 1000000) }
     {
@@ -71,7 +73,7 @@ impl SimulatedNetwork<'_> {
         ensures step { IsQuiet result }
     {
         let limit = u64::from(self.experiment.network.card_limit);
-        if self.packets.card_bytes(host) > limit {
+        if is_known(host) && self.packets.card_bytes(host) > limit {
             self.trouble.held = self.trouble.held.saturating_add(1);
             return RunStep::Inside;
         }
@@ -93,9 +95,10 @@ impl SimulatedNetwork<'_> {
     // The call of a list with this number is made, and the next one is due.
     fn listed(&mut self, i: u32) -> Result<RunStep, NetworkStop>
         ensures calls { self.new.calls ≡ self.old.calls }
-        ensures network { self.new.network ≡ self.old.network }
+        ensures moment { self.new.network.moment ≡ self.old.network.moment }
+        ensures fates { self.new.network.fates ≡ self.old.network.fates }
         ensures left_out { self.new.trouble.left_out ≡ self.old.trouble.left_out }
-        ensures drawn { IfOk result (λ step. self.new.drawn ≡ min (self.old.drawn + drawn_by step) (2 ^ 32 - 1)) }
+        ensures drawn { IfOk result (λ step. self.new.drawn ≡ drawn_after step self.old.drawn) }
         ensures delivered { IfOk result (λ step. delivered_by step ≡ 0) }
         ensures bytes { IfOk result (λ step. bytes_of step ≤ 1000000) }
     {
@@ -155,7 +158,8 @@ impl SimulatedNetwork<'_> {
     /// A call was drawn, or is the next of the list. Measuring may begin or end with it.
     pub(crate) fn call(&mut self, asked: &DrawnCall) -> RunStep
         ensures calls { self.new.calls ≡ self.old.calls }
-        ensures network { self.new.network ≡ self.old.network }
+        ensures moment { self.new.network.moment ≡ self.old.network.moment }
+        ensures fates { self.new.network.fates ≡ self.old.network.fates }
         ensures trouble { self.new.trouble ≡ self.old.trouble }
         ensures drawn { self.new.drawn ≡ min (self.old.drawn + 1) (2 ^ 32 - 1) }
         ensures step { result ≡ step.Call asked.now.client asked.now.server asked.now.bytes }

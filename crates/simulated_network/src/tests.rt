@@ -107,7 +107,7 @@ fn a_packet_takes_its_bytes_on_two_links(rt: HostRuntime) {
     assert_eq!(&rt; (window.links.taken, window.up), (168_000, 168_000));
     assert_eq!(&rt;
         window.links.idle(),
-        4 * u128::from(window.to - window.from) - 168_000
+        (4 * u128::from(window.to.saturating_sub(window.from))).saturating_sub(168_000)
     );
 }
 

@@ -9,7 +9,7 @@ use Rattle.homa_plain.specs.Answers.{shown, answering}
 use Rattle.homa_replay.proofs.Streams.{shown_parts}
 use Rattle.homa_world.specs.declared.shown.Passing.{Passing}
 use Rattle.generated_runs.proofs.Carried.{by_outcome, first_event, no_event}
-use Rattle.simulated_network.specs.declared.step.Step.{Step}
+use Rattle.simulated_network.specs.declared.step.RunStep.{RunStep}
 use Rattle.simulation.specs.Turns.{Turn, Waited, LeftOut, Happened, happenings, told_of, AreTurns}
 
 pub happenings-append : (a b : List Turn) → happenings (a ++ b) ≡ happenings a ++ happenings b
@@ -25,7 +25,7 @@ told_of-append (LeftOut client server bytes ∷ a) b = told_of-append a b
 told_of-append (Happened e told next ∷ a) b =
     ap (λ (es : List PlainEntry). told ++ es) (told_of-append a b) ∙ sym (append_assoc told (told_of a) (told_of b))
 
-module _ {N : Type 0} (gives : N → ℕ → Step → N → Type 0) (heeds : N → PlainEntry → Option Passing → N → Type 0) (leaves : N → N → Type 0)
+module _ {N : Type 0} (gives : N → ℕ → RunStep → N → Type 0) (heeds : N → PlainEntry → Option Passing → N → Type 0) (leaves : N → N → Type 0)
     (s : Settings) (service : ℕ) where
   pub turns_on : (ts us : List Turn) (w v x : World) (a b c : N) → AreTurns gives heeds leaves s service w a ts v b
       → AreTurns gives heeds leaves s service v b us x c → AreTurns gives heeds leaves s service w a (ts ++ us) x c

@@ -2,18 +2,18 @@
 use Rattle.std.specs.Prelude.{◌≡◌, ◌≤◌, ◌+◌, ◌-◌, ◌^◌, ℕ, min, Option, None, Some, ◌++◌}
 use Rattle.homa_plain.specs.Entries.{PlainEntry}
 use Rattle.homa_world.specs.declared.shown.Passing.{Passing}
-use Rattle.simulated_network.specs.declared.step.Datagram.{Datagram}
-use Rattle.simulated_network.specs.declared.step.Step.{Step}
+use Rattle.simulated_network.specs.declared.step.SentDatagram.{SentDatagram}
+use Rattle.simulated_network.specs.declared.step.RunStep.{RunStep}
 use Rattle.simulated_network.specs.Runs.{RunState, all_made, made_by, sent_by, drawn_by, delivered_by}
 
 -- what is known of a packet's datagram
-abbrev pub datagram_of : Option Passing → Option Datagram
+abbrev pub datagram_of : Option Passing → Option SentDatagram
 datagram_of None = None
 datagram_of (Some p) = Some (record { len = p.len; tick = p.tick })
 
 -- It gave a step: a call that it asks for counts as drawn, a packet that it brings as delivered; no call is made and no packet sent,
 -- and time doesn't go back.
-pub record Gives (a : RunState) (given : Step) (b : RunState) : Type 0 where
+pub record Gives (a : RunState) (given : RunStep) (b : RunState) : Type 0 where
   pub made : all_made b.calls ≡ all_made a.calls
   pub drawn : b.drawn ≡ min (a.drawn + drawn_by given) (2 ^ 32 - 1)
   pub delivered : b.network.fates.delivered ≡ a.network.fates.delivered + delivered_by given

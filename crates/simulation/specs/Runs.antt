@@ -10,7 +10,7 @@ use Rattle.homa_plain.specs.World.{World, new_world}
 use Rattle.homa_plain.specs.Replay.{Happening, carried}
 use Rattle.homa_plain.specs.Answers.{shown, answering}
 use Rattle.homa_world.specs.declared.shown.Passing.{Passing}
-use Rattle.simulated_network.specs.declared.step.Step.{Step}
+use Rattle.simulated_network.specs.declared.step.RunStep.{RunStep}
 use Rattle.simulation.specs.Turns.{Turn, happenings, told_of, line_of, AreTurns}
 
 -- what is printed of a text, if anything is printed
@@ -26,7 +26,7 @@ pub record At (N : Type 0) : Type 0 where
 abbrev pub at : {N : Type 0} → N → ℕ → Option (List ℕ) → At N
 at network events taken = record { network = network; events = events; taken = taken }
 
-module _ {N : Type 0} (gives : N → ℕ → Step → N → Type 0) (heeds : N → PlainEntry → Option Passing → N → Type 0) (leaves : N → N → Type 0)
+module _ {N : Type 0} (gives : N → ℕ → RunStep → N → Type 0) (heeds : N → PlainEntry → Option Passing → N → Type 0) (leaves : N → N → Type 0)
     (s : Settings) (service : ℕ) (prints : Bool) (w : World) where
   -- A run went on from this world: its turns led on, its events were counted, and their lines printed, if lines are printed.
   -- `stands` says which plain worlds the code's world may be afterwards; `before` and `after` say which entries the boxes allow.

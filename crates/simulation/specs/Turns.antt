@@ -14,13 +14,13 @@ use Rattle.homa_world.specs.declared.shown.Passing.{Passing}
 use Rattle.homa_world.specs.Passing.{IsOf}
 use Rattle.generated_runs.specs.Generated.{call_text}
 use Rattle.generated_runs.specs.Rounds.{live_at}
-use Rattle.simulated_network.specs.declared.step.Step.{Step}
-use Rattle.simulated_network.specs.declared.step.Step.TheVariants as step
+use Rattle.simulated_network.specs.declared.step.RunStep.{RunStep}
+use Rattle.simulated_network.specs.declared.step.RunStep.TheVariants as step
 
 -- What a turn of a run did.
 pub data Turn : Type 0 where
   -- time went on in the network alone, or the network said that the run is over
-  Waited : (given : Step) → Turn
+  Waited : (given : RunStep) → Turn
   -- a call wasn't made
   LeftOut : (client server : HostId) (bytes : ℕ) → Turn
   -- an event happened, this was told of it, and this is the world after it
@@ -51,14 +51,14 @@ beside e bytes = record { event = e; bytes = counting 0 bytes }
 -- ---- one turn
 
 -- the step is no event
-abbrev pub IsWait : Step → Type 0
+abbrev pub IsWait : RunStep → Type 0
 IsWait step.Over = Unit {0}
 IsWait step.Inside = Unit {0}
 IsWait (step.Event e bytes) = ⊥
 IsWait (step.Call client server bytes) = ⊥
 
 -- the step asks for this event, if calls go to the service with this number
-abbrev pub Asks : ℕ → Step → Happening → Type 0
+abbrev pub Asks : ℕ → RunStep → Happening → Type 0
 Asks service step.Over h = ⊥
 Asks service step.Inside h = ⊥
 Asks service (step.Event e bytes) h = h ≡ beside e bytes
@@ -100,9 +100,9 @@ module _ {N : Type 0} (heeds : N → PlainEntry → Option Passing → N → Typ
 
 -- ---- all turns
 
-module _ {N : Type 0} (gives : N → ℕ → Step → N → Type 0) (heeds : N → PlainEntry → Option Passing → N → Type 0) (leaves : N → N → Type 0) where
+module _ {N : Type 0} (gives : N → ℕ → RunStep → N → Type 0) (heeds : N → PlainEntry → Option Passing → N → Type 0) (leaves : N → N → Type 0) where
   -- The network gave a step at the tick of the world's clock, and went on from there.
-  pub record IsGiven (w : World) (given : Step) (a : N) (goes_on : N → Type 0) : Type 0 where
+  pub record IsGiven (w : World) (given : RunStep) (a : N) (goes_on : N → Type 0) : Type 0 where
     pub next : N
     pub gave : gives a w.clock given next
     pub rest : goes_on next
@@ -116,7 +116,7 @@ module _ {N : Type 0} (gives : N → ℕ → Step → N → Type 0) (heeds : N �
   -- It gave an event, which the plain world did, heeded each entry that it told, and went on from there.
   pub record IsTaken (s : Settings) (service : ℕ) (w : World) (e : Happening) (told : List PlainEntry) (next : World) (a : N)
       (goes_on : N → Type 0) : Type 0 where
-    pub given : Step
+    pub given : RunStep
     pub asks : Asks service given e
     pub asked : N
     pub gave : gives a w.clock given asked

@@ -2,16 +2,16 @@
 ghost use Rattle.std.specs.Prelude.{◌≡◌, ℕ, Option, IfOk, OnOk};
 ghost use Rattle.homa_plain.specs.Entries.{PlainEntry, plain};
 ghost use Rattle.homa_world.specs.declared.shown.Passing.{Passing};
-ghost use Rattle.simulated_network.specs.declared.step.Step.{Step};
+ghost use Rattle.simulated_network.specs.declared.step.RunStep.{RunStep};
 
 use homa_plain::Entry;
 use homa_world::Passing;
-use simulated_network::{NetworkStop, Step};
+use simulated_network::{NetworkStop, RunStep};
 
 /// A network of hosts, which isn't the world: it gives the events of a run, and heeds what they tell.
 pub trait HostNetwork {
     /// From one state to the next, it gave this step at a tick of the world's clock.
-    ghost gives: { Self → ℕ → Step → Self → Type 0 };
+    ghost gives: { Self → ℕ → RunStep → Self → Type 0 };
 
     /// From one state to the next, it heeded this entry, with what the world shows of its packet.
     ghost heeds: { Self → PlainEntry → Option Passing → Self → Type 0 };
@@ -26,7 +26,7 @@ pub trait HostNetwork {
     ghost count: { Self → ℕ };
 
     /// Gives the next step of a run, at a tick of the world's clock. Fails if there is no memory, or a moment is too late.
-    fn next(&mut self, tick: u64) -> Result<Step, NetworkStop>
+    fn next(&mut self, tick: u64) -> Result<RunStep, NetworkStop>
         ensures { IfOk result (λ step. gives self.old tick step self.new) };
 
     /// Hears that the call which it gave last isn't made, as its client has as many live ones as it may.

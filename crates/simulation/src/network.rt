@@ -5,14 +5,14 @@ ghost use Rattle.simulation.specs.Network.{datagram_of};
 use crate::HostNetwork;
 use homa_plain::Entry;
 use homa_world::Passing;
-use simulated_network::{Datagram, NetworkStop, SimulatedNetwork, Step};
+use simulated_network::{SentDatagram, NetworkStop, SimulatedNetwork, RunStep};
 
 // What is known of a packet's datagram.
-fn datagram_of(passing: Option<Passing>) -> Option<Datagram>
+fn datagram_of(passing: Option<Passing>) -> Option<SentDatagram>
     ensures { result ≡ datagram_of passing }
 {
     let passing = passing?;
-    Some(Datagram {
+    Some(SentDatagram {
         len: passing.len,
         tick: passing.tick,
     })
@@ -32,7 +32,7 @@ impl HostNetwork for SimulatedNetwork<'_> {
 
     ghost count = { λ a. a.drawn };
 
-    fn next(&mut self, tick: u64) -> Result<Step, NetworkStop> {
+    fn next(&mut self, tick: u64) -> Result<RunStep, NetworkStop> {
         SimulatedNetwork::next(self, tick)
     }
 

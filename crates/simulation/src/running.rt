@@ -12,7 +12,7 @@ use homa_generate::GenerateWorld;
 use homa_io::Sink;
 use homa_plain::Event;
 use homa_replay::OpenWorld;
-use simulated_network::{Outcome, SimulatedNetwork, Step};
+use simulated_network::{RunOutcome, SimulatedNetwork, RunStep};
 use std::alloc::Global;
 
 // After how many turns a run stops.
@@ -38,7 +38,7 @@ pub trait Telling {
 
     /// Hears how far a run is.
     fn tell(&mut self, far: &Far)
-        ensures { hears self.old far.now self.new };
+        ensures { hears self.old far.entry.now self.new };
 }
 
 // A turn of a run; whether the run goes on.
@@ -65,12 +65,12 @@ fn turn<P: GenerateWorld, N: HostNetwork, K: Sink>(
     ensures same { K.is_same sink.old sink.new }
 {
     match network.next(world.clock())? {
-        Step::Over => return Ok(false),
-        Step::Inside => {}
-        Step::Event { event, bytes } => {
+        RunStep::Over => return Ok(false),
+        RunStep::Inside => {}
+        RunStep::Event { event, bytes } => {
             happen(setup, world, network, sink, events, &event, bytes)?;
         }
-        Step::Call {
+        RunStep::Call {
             client,
             server,
             bytes,
@@ -137,7 +137,7 @@ pub fn simulate<B: Drop, P: GenerateWorld + OpenWorld<B> + Drop, K: Sink, T: Tel
     sink: &mut K,
     prints: bool,
     telling: &mut T,
-) -> Result<Outcome, SimStop>
+) -> Result<RunOutcome, SimStop>
     requires { P.are_ready boxes }
     ensures ran { IfOk result (λ outcome. IsRun experiment.now.settings (P.many boxes) prints (P.are_allowed boxes) (K.taken sink.old) (K.taken sink.new)
         outcome.events) }

@@ -4,15 +4,15 @@ use experiment::{Experiment, ExperimentFault, read};
 use homa_io::{MemSink, MemSource};
 use homa_service::Suite;
 use homa_world::World;
-use simulated_network::Outcome;
+use simulated_network::RunOutcome;
 use std::alloc::Global;
 use std::process::Abort;
 
 // Counts how often it is told how far a run is.
 #[derive(Drop)]
-struct Heard(u32);
+struct Counted(u32);
 
-impl Telling for Heard {
+impl Telling for Counted {
     ghost hears = { λ a far b. Unit {0} };
 
     fn tell(&mut self, _far: &Far) {
@@ -27,10 +27,10 @@ fn experiment_of(alloc: Global, text: &str) -> Result<Experiment, ExperimentFaul
 }
 
 // Runs an experiment, whose events the sink takes.
-fn run_of(alloc: Global, experiment: &Experiment, sink: &mut MemSink) -> Result<Outcome, SimStop> {
+fn run_of(alloc: Global, experiment: &Experiment, sink: &mut MemSink) -> Result<RunOutcome, SimStop> {
     let boxes = suites(alloc)?;
-    let mut heard = Heard(0);
-    simulate::<Vec<Suite>, World<Suite>, MemSink, Heard>(
+    let mut heard = Counted(0);
+    simulate::<Vec<Suite>, World<Suite>, MemSink, Counted>(
         alloc, experiment, 1, boxes, sink, true, &mut heard,
     )
 }
@@ -40,7 +40,7 @@ fn printed(
     rt: &(impl Abort + AllocGlobal),
     text: &str,
     wanted: &str,
-) -> Result<Outcome, SimStop> {
+) -> Result<RunOutcome, SimStop> {
     let alloc = rt.alloc();
     let Ok(experiment) = experiment_of(alloc, text) else {
         assert!(rt; false, "no experiment");

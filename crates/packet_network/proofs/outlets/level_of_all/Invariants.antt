@@ -1,0 +1,7 @@
+-- What passed at those that were gone through.
+use Rattle.std.proofs.Common.{◌≡◌, take}
+use Rattle.packet_network.specs.Measures.{passed_at}
+use Rattle.packet_network.proofs.outlets.level_of_all.Given as goal
+
+abbrev pub invariant-loop-outlet : goal.invariant-loop-outlet
+invariant-loop-outlet l = l.sum.passed ≡ passed_at l.level (take l.outlet-index l.outlets)

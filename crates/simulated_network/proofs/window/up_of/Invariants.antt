@@ -1,0 +1,5 @@
+use Rattle.std.proofs.Common.{◌≤◌, ◌*◌, ◌^◌}
+use Rattle.simulated_network.proofs.window.up_of.Given as goal
+
+abbrev pub invariant-loop-host : goal.invariant-loop-host
+invariant-loop-host l = l.up ≤ l.host * 2 ^ 64
