@@ -34,16 +34,18 @@ module _ {N : Type 0} (gives : N → ℕ → RunStep → N → Type 0) (heeds : 
       (subst (λ (y : World). AreTurns gives heeds leaves s service y b us x c) (sym first.0) rest)
   turns_on (Waited given ∷ ts) us w v x a b c first rest =
       (first.0, record { next = first.1.next; gave = first.1.gave; rest = turns_on ts us w v x first.1.next b c first.1.rest rest })
-  turns_on (LeftOut client server bytes ∷ ts) us w v x a b c first rest =
-      (first.0, record {
-        next = first.1.next;
-        gave = first.1.gave;
-        rest = record {
-          next = first.1.rest.next;
-          left = first.1.rest.left;
-          rest = turns_on ts us w v x first.1.rest.next b c first.1.rest.rest rest;
-        };
-      })
+  turns_on (LeftOut client server bytes ∷ ts) us w v x a b c first rest = (
+    first.0,
+    record {
+      next = first.1.next;
+      gave = first.1.gave;
+      rest = record {
+        next = first.1.rest.next;
+        left = first.1.rest.left;
+        rest = turns_on ts us w v x first.1.rest.next b c first.1.rest.rest rest;
+      };
+    },
+  )
   turns_on (Happened e told after ∷ ts) us w v x a b c first rest = record {
     given = first.given;
     asks = first.asks;

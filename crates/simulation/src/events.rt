@@ -27,10 +27,7 @@ fn shown_of<P: GenerateWorld>(world: &P, entry: &Entry<'_>) -> Option<Passing>
 }
 
 // The network heeds each entry of the last event.
-fn heed_all<P: GenerateWorld, N: HostNetwork>(
-    world: &P,
-    network: &mut N,
-) -> Result<(), NetworkStop>
+fn heed_all<P: GenerateWorld, N: HostNetwork>(world: &P, network: &mut N) -> Result<(), NetworkStop>
     ensures { OnOk result ((w : World) → P.stands world.now w
         → AreHeeded N.heeds (P.settings world.now) w (P.told world.now) network.old network.new) }
 {

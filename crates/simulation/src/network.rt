@@ -5,7 +5,7 @@ ghost use Rattle.simulation.specs.Network.{datagram_of};
 use crate::HostNetwork;
 use homa_plain::Entry;
 use homa_world::Passing;
-use simulated_network::{SentDatagram, NetworkStop, SimulatedNetwork, RunStep};
+use simulated_network::{NetworkStop, RunStep, SentDatagram, SimulatedNetwork};
 
 // What is known of a packet's datagram.
 fn datagram_of(passing: Option<Passing>) -> Option<SentDatagram>

@@ -12,7 +12,7 @@ use homa_generate::GenerateWorld;
 use homa_io::Sink;
 use homa_plain::Event;
 use homa_replay::OpenWorld;
-use simulated_network::{RunOutcome, SimulatedNetwork, RunStep};
+use simulated_network::{RunOutcome, RunStep, SimulatedNetwork};
 use std::alloc::Global;
 
 // After how many turns a run stops.

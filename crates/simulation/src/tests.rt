@@ -27,7 +27,11 @@ fn experiment_of(alloc: Global, text: &str) -> Result<Experiment, ExperimentFaul
 }
 
 // Runs an experiment, whose events the sink takes.
-fn run_of(alloc: Global, experiment: &Experiment, sink: &mut MemSink) -> Result<RunOutcome, SimStop> {
+fn run_of(
+    alloc: Global,
+    experiment: &Experiment,
+    sink: &mut MemSink,
+) -> Result<RunOutcome, SimStop> {
     let boxes = suites(alloc)?;
     let mut heard = Counted(0);
     simulate::<Vec<Suite>, World<Suite>, MemSink, Counted>(
