@@ -146,7 +146,7 @@ KEPT = {
 }
 MADE = {
     "generated": lambda: made(7, 300),
-    "usual": lambda: network(*MIXED, "hosts 8", "measure 300"),
+    "usual": lambda: network(*MIXED, "hosts 8", "measure 400", "resend 60", "loss 10000", "load 400"),
     "restarts": lambda: network(*MIXED, *BUSY, "measure 60"),
     "version 2": lambda: network(*MIXED, *BUSY, "measure 60", "wire 2", "skew 3"),
     "full": lambda: replayed(FULL),

@@ -1,17 +1,17 @@
 -- What the simulated network says of a call, as one fact.
-use Rattle.std.proofs.Common.{◌≡◌, ◌≤◌, ◌+◌, ◌-◌, ◌^◌, ℕ, min, Option, Result, Ok, Err, ◌++◌, ◌∙◌, ap}
+use Rattle.std.proofs.Common.{◌≡◌, ◌≤◌, ◌+◌, ℕ, Option, Result, Ok, Err, ◌++◌, ◌∙◌, ap}
 use Rattle.std.specs.Prelude.{IfOk, OnOk}
 use Rattle.homa_plain.specs.Entries.{PlainEntry}
 use Rattle.homa_world.specs.declared.shown.Passing.{Passing}
 use Rattle.packet_network.specs.declared.stop.NetworkStop.{NetworkStop}
 use Rattle.simulated_network.specs.declared.step.SentDatagram.{SentDatagram}
 use Rattle.simulated_network.specs.declared.step.RunStep.{RunStep}
-use Rattle.simulated_network.specs.Runs.{RunState, all_made, made_by, sent_by, drawn_by, delivered_by}
+use Rattle.simulated_network.specs.Runs.{RunState, all_made, made_by, sent_by, drawn_after, delivered_by}
 use Rattle.simulation.specs.Network.{datagram_of, Gives, Heeds}
 
 module _ (a b : RunState) where
   pub gives_of : (r : Result RunStep NetworkStop) → all_made b.calls ≡ all_made a.calls
-      → IfOk r (λ x. b.drawn ≡ min (a.drawn + drawn_by x) (2 ^ 32 - 1))
+      → IfOk r (λ x. b.drawn ≡ drawn_after x a.drawn)
       → IfOk r (λ x. b.network.fates.delivered ≡ a.network.fates.delivered + delivered_by x)
       → b.network.fates.sent ≡ a.network.fates.sent → a.network.moment ≤ b.network.moment → b.trouble.left_out ≡ a.trouble.left_out
       → IfOk r (λ x. Gives a x b)

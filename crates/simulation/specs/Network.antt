@@ -1,10 +1,10 @@
 -- The simulated network, as what surrounds a world.
-use Rattle.std.specs.Prelude.{◌≡◌, ◌≤◌, ◌+◌, ◌-◌, ◌^◌, ℕ, min, Option, None, Some, ◌++◌}
+use Rattle.std.specs.Prelude.{◌≡◌, ◌≤◌, ◌+◌, ℕ, Option, None, Some, ◌++◌}
 use Rattle.homa_plain.specs.Entries.{PlainEntry}
 use Rattle.homa_world.specs.declared.shown.Passing.{Passing}
 use Rattle.simulated_network.specs.declared.step.SentDatagram.{SentDatagram}
 use Rattle.simulated_network.specs.declared.step.RunStep.{RunStep}
-use Rattle.simulated_network.specs.Runs.{RunState, all_made, made_by, sent_by, drawn_by, delivered_by}
+use Rattle.simulated_network.specs.Runs.{RunState, all_made, made_by, sent_by, drawn_after, delivered_by}
 
 -- what is known of a packet's datagram
 abbrev pub datagram_of : Option Passing → Option SentDatagram
@@ -15,7 +15,7 @@ datagram_of (Some p) = Some (record { len = p.len; tick = p.tick })
 -- and time doesn't go back.
 pub record Gives (a : RunState) (given : RunStep) (b : RunState) : Type 0 where
   pub made : all_made b.calls ≡ all_made a.calls
-  pub drawn : b.drawn ≡ min (a.drawn + drawn_by given) (2 ^ 32 - 1)
+  pub drawn : b.drawn ≡ drawn_after given a.drawn
   pub delivered : b.network.fates.delivered ≡ a.network.fates.delivered + delivered_by given
   pub sent : b.network.fates.sent ≡ a.network.fates.sent
   pub forth : a.network.moment ≤ b.network.moment

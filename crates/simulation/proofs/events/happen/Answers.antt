@@ -1,18 +1,23 @@
 -- Its line, the plain world's outcome, and each entry that was told.
-use Rattle.std.proofs.Common.{◌≡◌, ◌≤◌, ◌∙◌, ℕ, List, length, take, ap, subst, arith}
+use Rattle.std.proofs.Common.{◌≡◌, ◌≤◌, ◌∙◌, ◌%◌, ℕ, zero, suc, List, ◌∷◌, length, take, refl, ap, subst, arith}
 use Rattle.std.proofs.lemmas.Result.{MatchResult-from_err}
 use Rattle.homa_plain.specs.declared.settings.Settings.{Settings}
 use Rattle.homa_plain.specs.Script.{counting}
 use Rattle.homa_plain.specs.Answers.{shown}
 use Rattle.homa_replay.specs.Stream.{IsDone}
 use Rattle.homa_replay.proofs.Fronts.{front_whole}
-use Rattle.homa_generate.proofs.LineLaws.{take-counting}
 use Rattle.simulation.specs.Turns.{AreHeeded}
 use Rattle.simulation.proofs.events.happen.Goals as goal
 
+-- a front of counting bytes
+take_counting : (i n m : ℕ) → n ≤ m → take n (counting i m) ≡ counting i n
+take_counting i zero m few = refl
+take_counting i (suc n) zero few = absurd (omega arith)
+take_counting i (suc n) (suc m) few = ap (λ (l : List ℕ). i % 256 ∷ l) (take_counting (suc i) n m (omega arith))
+
 -- a front of the run's bytes
 front_of : (bytes lent : List ℕ) (n : ℕ) → lent ≡ bytes → bytes ≡ counting 0 (length bytes) → n ≤ length bytes → take n lent ≡ counting 0 n
-front_of bytes lent n is counts short = ap (take n) (is ∙ counts) ∙ take-counting 0 n (length bytes) short
+front_of bytes lent n is counts short = ap (take n) (is ∙ counts) ∙ take_counting 0 n (length bytes) short
 
 pub returns-in_err-show-clause-part : goal.returns-in_err-show-clause-part
 returns-in_err-show-clause-part g c =
