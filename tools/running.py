@@ -192,12 +192,21 @@ def outcome(tool, main, faults, doc):
         restore_signals()
 
 
+def is_of_interrupt(fault):
+    """Whether it is Ctrl-C, or was raised while Ctrl-C went its way: argparse's `finally` does so."""
+    while fault is not None and not isinstance(fault, KeyboardInterrupt):
+        fault = fault.__context__
+    return fault is not None
+
+
 def run(tool, main, faults=(), doc=None):
     """Runs `main` and exits with its status. With `doc`, `--help` prints that text. `faults` are refusals too."""
     try:
         status = outcome(tool, main, faults, doc)
-    except KeyboardInterrupt:
-        exit_by_signal(signal.SIGINT)
+    except (KeyboardInterrupt, Exception) as fault:
+        if is_of_interrupt(fault):
+            exit_by_signal(signal.SIGINT)
+        raise
     sys.exit(status)
 
 
