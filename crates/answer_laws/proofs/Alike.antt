@@ -19,8 +19,12 @@ use Rattle.homa_plain.specs.Rows.{ServerRow, State, Receiving, Held, Replying, B
 use Rattle.homa_plain.specs.Host.{Host, pages_for, tuned, peer_cutoffs, Told, Says, packets_in}
 use Rattle.homa_plain.specs.Rules.{Moment, Answer, Piece, Tells, Did, leaves, opening, version_of}
 use Rattle.homa_plain.specs.AtServer.{runs, piece_added, piece_comes, opens, piece_of, unknown_gets, receiving_gets, row_gets, server_gets}
-use Rattle.homa_plain.specs.Steps.{Work, begun, now_of, moment, said, served, comes_to_row, acked, takes, is_stale, is_newer, comes, tells, posts}
-use Rattle.homa_plain.specs.Steps.{notes, tells_cutoffs, gives_grants, ended, arrival_step, hears_cutoffs}
+use Rattle.homa_plain.specs.Work.{Work, begun, now_of, said, tells, posts}
+use Rattle.homa_plain.specs.Steps.{moment, served, comes_to_row, acked, takes, comes}
+use Rattle.homa_plain.specs.OldPackets.{is_stale}
+use Rattle.homa_plain.specs.CutoffsPackets.{is_newer}
+use Rattle.homa_plain.specs.CutoffsPackets.{notes, tells_cutoffs, hears_cutoffs}
+use Rattle.homa_plain.specs.Steps.{gives_grants, ended, arrival_step}
 use Rattle.step_laws.specs.StepLaws.{run_count}
 use Rattle.step_laws.proofs.ToldBy.{run_count-append, Calm, calm_then, one_if_some, notes-calm, tells_cutoffs-calm, hears_cutoffs-calm}
 use Rattle.step_laws.proofs.OneAnswer.{acked-calm}

@@ -21,7 +21,8 @@ use Rattle.homa_plain.specs.Entries.{PlainEntry, PlainRun, PlainDeliver, PlainIn
 use Rattle.homa_plain.specs.Packets.{Packet, receiver}
 use Rattle.homa_plain.specs.Host.{Host, new_host, Told, Says, packets_in, entries_from}
 use Rattle.homa_plain.specs.Rules.{Answer}
-use Rattle.homa_plain.specs.Steps.{Work, has_run, call_step, arrival_step, turn_step, start_fault}
+use Rattle.homa_plain.specs.Work.{Work}
+use Rattle.homa_plain.specs.Steps.{has_run, call_step, arrival_step, turn_step, start_fault}
 use Rattle.homa_plain.specs.World.{World, SentPacket, Outcome, Done, Refused, outcome, host_at, own_clock, is_late, last_tick, next_answer}
 use Rattle.homa_plain.specs.World.{answers_left, stepped, started, calls_from, arrives_at, delivered, turns, restarts, injected, shifted}
 use Rattle.homa_plain.specs.Answers.{answering, shown}

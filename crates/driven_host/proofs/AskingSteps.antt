@@ -3,7 +3,7 @@ use Rattle.std.proofs.Common.{◌≡◌, ◌<◌, ◌≤◌, ◌+◌, ◌^◌, �
 use Rattle.std.specs.Prelude.{if◌then◌else◌, OnOk, OnErr}
 use Rattle.homa_plain.specs.declared.id.HostId.{HostId}
 use Rattle.homa_plain.specs.Rules.{Answer}
-use Rattle.homa_plain.specs.Steps.{Work}
+use Rattle.homa_plain.specs.Work.{Work}
 use Rattle.host_view.specs.declared.outbox.SentFrame.{SentFrame}
 use Rattle.host_view.specs.Seen.{Seen}
 use Rattle.host_view.specs.Marks.{IsAnswer}

@@ -17,10 +17,14 @@ use Rattle.homa_plain.specs.Outgoing.{next_range}
 use Rattle.homa_plain.specs.Rows.{ClientRow, ServerRow, State, Receiving, Held, Replying, Buried}
 use Rattle.homa_plain.specs.Host.{Host, packets_in, peer_cutoffs}
 use Rattle.homa_plain.specs.Timers.{Place, OfClient, OfServer}
-use Rattle.homa_plain.specs.Sending.{Arriving, arriving_at_client, arriving_at_server, arrivals, Leaving, leaving_key, departures, granted_part}
+use Rattle.homa_plain.specs.Sending.{Arriving, arriving_at_client, arriving_at_server, arrivals, granted_part}
+use Rattle.homa_plain.specs.SentNext.{Leaving, leaving_key, departures}
 use Rattle.homa_plain.specs.Sending.{client_granted, state_granted, server_granted, client_sends, state_sends, response_content}
-use Rattle.homa_plain.specs.Steps.{Work, now_of, client_is_granted, server_is_granted, grants_at, gives_grants, request_leaves, response_leaves}
-use Rattle.homa_plain.specs.Steps.{client_leaves, state_leaves, server_leaves, leaves_from, first_leaves, pumped_once, pumps, most_packets, ended}
+use Rattle.homa_plain.specs.Work.{Work, now_of}
+use Rattle.homa_plain.specs.Steps.{client_is_granted, server_is_granted, grants_at, gives_grants}
+use Rattle.homa_plain.specs.SentNext.{request_leaves, response_leaves}
+use Rattle.homa_plain.specs.SentNext.{client_leaves, state_leaves, server_leaves, leaves_from, first_leaves, pumped_once, pumps, most_packets}
+use Rattle.homa_plain.specs.Steps.{ended}
 use Rattle.homa_plain.proofs.ChoiceLaws.{chosen-map}
 use Rattle.step_laws.specs.StepLaws.{LeavesOthers}
 use Rattle.step_laws.proofs.Places.{IsOne}

@@ -13,8 +13,11 @@ use Rattle.homa_plain.specs.Choice.{due, least, most_acts}
 use Rattle.homa_plain.specs.Host.{Host}
 use Rattle.homa_plain.specs.Limits.{last_host_tick}
 use Rattle.homa_plain.specs.Timers.{Timer, timer_key, timers}
-use Rattle.homa_plain.specs.Sending.{Leaving, leaving_key, departures}
-use Rattle.homa_plain.specs.Steps.{Work, begun, refilled, first_leaves, pumped_once, pump, all_act, acts, all_granted, ended, turn_step}
+use Rattle.homa_plain.specs.SentNext.{Leaving, leaving_key, departures}
+use Rattle.homa_plain.specs.Work.{Work, begun}
+use Rattle.homa_plain.specs.Credit.{refilled}
+use Rattle.homa_plain.specs.SentNext.{first_leaves, pumped_once, pump}
+use Rattle.homa_plain.specs.Steps.{all_act, acts, all_granted, ended, turn_step}
 use Rattle.homa_timers.specs.Armed as armed
 use Rattle.homa_pacer.specs.Pace as pace
 use Rattle.host_view.specs.Seen.{Seen, timer_of, waiting, AreArmed, AreReady}

@@ -12,7 +12,9 @@ use Rattle.homa_plain.specs.Host.{Host}
 use Rattle.homa_plain.specs.Packets.{Packet}
 use Rattle.homa_plain.specs.Rules.{Answer}
 use Rattle.homa_plain.specs.Sending.{Arriving}
-use Rattle.homa_plain.specs.Steps.{Work, begun, refilled, acts, starts, comes, call_step, arrival_step, turn_step}
+use Rattle.homa_plain.specs.Work.{Work, begun}
+use Rattle.homa_plain.specs.Credit.{refilled}
+use Rattle.homa_plain.specs.Steps.{acts, starts, comes, call_step, arrival_step, turn_step}
 use Rattle.host_view.specs.declared.outbox.SentFrame.{SentFrame}
 use Rattle.host_view.specs.Seen.{Seen}
 use Rattle.host_view.specs.Marks.{IsAnswer}

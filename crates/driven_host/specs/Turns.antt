@@ -6,7 +6,8 @@ use Rattle.homa_plain.specs.Host.{Host}
 use Rattle.homa_plain.specs.Limits.{last_host_tick}
 use Rattle.homa_plain.specs.Timers.{Timer, timers}
 use Rattle.homa_plain.specs.Sending.{Arriving, arrivals}
-use Rattle.homa_plain.specs.Steps.{refilled, turn_step}
+use Rattle.homa_plain.specs.Credit.{refilled}
+use Rattle.homa_plain.specs.Steps.{turn_step}
 use Rattle.host_view.specs.Seen.{Seen, waiting}
 
 -- a turn at this tick tells and sends nothing, and leaves the host as it is, but for its clock, and its credit where that is filled up

@@ -23,11 +23,15 @@ use Rattle.homa_plain.specs.Host.{Host, new_host, Told, packets_in, pages_for, f
 use Rattle.homa_plain.specs.Rules.{Moment, Answer, Piece, Say, Tells, Posts, Did, keeps, opening}
 use Rattle.homa_plain.specs.AtClient.{renewed, refreshed, response_piece, started_over, unasked, answered, client_gets}
 use Rattle.homa_plain.specs.AtClient as client
-use Rattle.homa_plain.specs.AtServer.{server_acked}
+use Rattle.homa_plain.specs.Tombstones.{server_acked}
 use Rattle.homa_plain.specs.Timers.{Place, OfClient, OfServer, client_acts, server_acts}
 use Rattle.homa_plain.specs.Sending.{client_granted, server_granted, client_sends, state_sends}
-use Rattle.homa_plain.specs.Steps.{Work, begun, now_of, moment, asked, served, said, hears_cutoffs, comes_to_row, acked, takes, is_stale, comes}
-use Rattle.homa_plain.specs.Steps.{client_acted, server_acted, acts_at, acts, ended, next_id, new_call, starts, refilled, call_step, arrival_step, turn_step}
+use Rattle.homa_plain.specs.Work.{Work, begun, now_of, said}
+use Rattle.homa_plain.specs.Steps.{moment, asked, served, comes_to_row, acked, takes, comes}
+use Rattle.homa_plain.specs.CutoffsPackets.{hears_cutoffs}
+use Rattle.homa_plain.specs.OldPackets.{is_stale}
+use Rattle.homa_plain.specs.Steps.{client_acted, server_acted, acts_at, acts, ended, next_id, new_call, starts, call_step, arrival_step, turn_step}
+use Rattle.homa_plain.specs.Credit.{refilled}
 use Rattle.homa_plain.proofs.CallOrder.{calls_are}
 use Rattle.step_laws.proofs.Others.{get-set_row, set_row-others}
 use Rattle.step_laws.proofs.Places.{all-append}

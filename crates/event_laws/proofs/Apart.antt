@@ -7,7 +7,8 @@ use Rattle.homa_plain.specs.declared.settings.Settings.{Settings}
 use Rattle.homa_plain.specs.Packets.{Packet, sender, receiver}
 use Rattle.homa_plain.specs.Host.{Host, new_host}
 use Rattle.homa_plain.specs.Rules.{Answer}
-use Rattle.homa_plain.specs.Steps.{Work, call_step, arrival_step, turn_step}
+use Rattle.homa_plain.specs.Work.{Work}
+use Rattle.homa_plain.specs.Steps.{call_step, arrival_step, turn_step}
 use Rattle.step_moves.specs.Worlds.{HasOwnName}
 use Rattle.event_laws.specs.Among.{IsAmong, IsAmongStep}
 use Rattle.event_laws.specs.Apart.{IsApart, IsApartStep}

@@ -7,7 +7,7 @@ use Rattle.homa_plain.specs.declared.id.HostId.{HostId}
 use Rattle.homa_plain.specs.Packets.{Packet, receiver}
 use Rattle.homa_plain.specs.Rows.{ClientRow, ServerRow}
 use Rattle.homa_plain.specs.Host.{Host, packets_in}
-use Rattle.homa_plain.specs.Steps.{Work}
+use Rattle.homa_plain.specs.Work.{Work}
 
 -- the servers of the calls that a host makes, and the clients of those that it serves, are such hosts
 pub record IsAmong (such : HostId → Type 0) (h : Host) : Type 0 where

@@ -7,7 +7,7 @@ use Rattle.homa_plain.specs.declared.id.HostId.{HostId}
 use Rattle.homa_plain.specs.Packets.{Packet, receiver}
 use Rattle.homa_plain.specs.Rows.{ClientRow, ServerRow}
 use Rattle.homa_plain.specs.Host.{Host, packets_in}
-use Rattle.homa_plain.specs.Steps.{Work}
+use Rattle.homa_plain.specs.Work.{Work}
 
 -- no row is of a call of the host to itself
 pub record IsApart (id : HostId) (h : Host) : Type 0 where

@@ -5,7 +5,7 @@ use Rattle.homa_plain.specs.declared.id.HostId.{HostId}
 use Rattle.homa_plain.specs.Entries.{PlainEntry, PlainRestart, PlainSend}
 use Rattle.homa_plain.specs.Packets.{Packet, sender}
 use Rattle.homa_plain.specs.Host.{Told, Says, packets_in}
-use Rattle.homa_plain.specs.Steps.{Work}
+use Rattle.homa_plain.specs.Work.{Work}
 use Rattle.step_moves.specs.Worlds.{HasOwnName}
 
 -- what a step tells: no `send` line but by a packet, and no restart

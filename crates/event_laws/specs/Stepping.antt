@@ -7,7 +7,8 @@ use Rattle.homa_plain.specs.declared.fault.WorldFault.{WorldFault}
 use Rattle.homa_plain.specs.Entries.{PlainEntry}
 use Rattle.homa_plain.specs.Host.{Host, new_host, packets_in, entries_from}
 use Rattle.homa_plain.specs.Rules.{Answer}
-use Rattle.homa_plain.specs.Steps.{Work, has_run}
+use Rattle.homa_plain.specs.Work.{Work}
+use Rattle.homa_plain.specs.Steps.{has_run}
 use Rattle.homa_plain.specs.World.{World, Done, Refused, outcome, stamped}
 use Rattle.homa_plain.specs.Answers.{answering}
 

@@ -13,7 +13,9 @@ use Rattle.homa_plain.specs.declared.fault.WorldFault.TheVariants.{NoSuchHost, L
 use Rattle.homa_plain.specs.Entries.{PlainEntry, PlainDeliver, PlainClock}
 use Rattle.homa_plain.specs.Packets.{Packet, receiver}
 use Rattle.homa_plain.specs.Host.{Host, packets_in, entries_from}
-use Rattle.homa_plain.specs.Steps.{Work, most_packets, start_fault, call_step, arrival_step, turn_step}
+use Rattle.homa_plain.specs.Work.{Work}
+use Rattle.homa_plain.specs.SentNext.{most_packets}
+use Rattle.homa_plain.specs.Steps.{start_fault, call_step, arrival_step, turn_step}
 use Rattle.homa_plain.specs.World.{World, SentPacket, After, Refused, Done, host_at, own_clock, next_answer, stamped, stepped, started, calls_from}
 use Rattle.homa_plain.specs.World.{arrives_at, is_late, delivered, last_tick, turns, outcome}
 use Rattle.homa_plain.specs.Replay.{Happening, Run, bare, turns_of, ticks, carried}

@@ -8,7 +8,7 @@ use Rattle.homa_plain.specs.Calls.{is_host}
 use Rattle.homa_plain.specs.Packets.{Packet, sender, receiver}
 use Rattle.homa_plain.specs.Host.{Host, new_host, packets_in}
 use Rattle.homa_plain.specs.Rules.{Answer}
-use Rattle.homa_plain.specs.Steps.{Work}
+use Rattle.homa_plain.specs.Work.{Work}
 use Rattle.homa_plain.specs.World.{World, SentPacket, new_world, new_hosts, host_at, stamped, answers_left}
 use Rattle.step_laws.proofs.Places.{all-append}
 use Rattle.step_moves.specs.Worlds.{HasOwnName}

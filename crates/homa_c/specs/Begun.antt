@@ -1,7 +1,8 @@
 -- The steps of a host that C begins, at a tick of the host's own clock.
 use Rattle.std.specs.Prelude.{ℕ, List}
 use Rattle.homa_plain.specs.Rules.{Answer}
-use Rattle.homa_plain.specs.Steps.{Work, call_step, arrival_step, turn_step}
+use Rattle.homa_plain.specs.Work.{Work}
+use Rattle.homa_plain.specs.Steps.{call_step, arrival_step, turn_step}
 use Rattle.host_view.specs.Done.{arriving}
 use Rattle.driven_host.specs.Driven.{Driven}
 

@@ -8,7 +8,7 @@ use Rattle.homa_plain.specs.declared.settings.Settings.{Settings}
 use Rattle.homa_plain.specs.declared.row.Emitted.TheVariants.{Sent, Short, Rests}
 use Rattle.homa_plain.specs.Outgoing.{next_range}
 use Rattle.homa_plain.specs.Rows.{ClientRow}
-use Rattle.homa_plain.specs.Sending.{may_send_request}
+use Rattle.homa_plain.specs.SentNext.{may_send_request}
 use Rattle.homa_in.specs.Sends.{emits}
 use Rattle.homa_client.specs.Gives.{row_emits}
 

@@ -13,7 +13,8 @@ use Rattle.homa_plain.specs.Outgoing.{has_waiting, left, next_range}
 use Rattle.homa_plain.specs.Entries.{PlainDone, PlainFail, PlainFullPages, PlainGaps}
 use Rattle.homa_plain.specs.Rows.{ClientRow}
 use Rattle.homa_plain.specs.Rules.{Moment, Piece, Tells, Posts, Did, keeps, says, opening}
-use Rattle.homa_plain.specs.Sending.{may_send_request, client_sends}
+use Rattle.homa_plain.specs.SentNext.{may_send_request}
+use Rattle.homa_plain.specs.Sending.{client_sends}
 use Rattle.msg_pool.specs.Pool.{Pool, free_pages}
 use Rattle.homa_in.specs.Part.{Part}
 use Rattle.homa_in.specs.Pooled.{Moves, pages_of}

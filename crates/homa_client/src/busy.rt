@@ -3,7 +3,7 @@
 //! `gets` answers so too where a NEED_ACK comes, since the call is live, and hears BUSY of a server. `homa_server/src/busy` is the
 //! server's side.
 ghost use Rattle.std.specs.Prelude.{◌≡◌, List, ℕ, ◌<◌, ◌≤◌, None};
-ghost use Rattle.homa_plain.specs.Outgoing.{resend};
+ghost use Rattle.homa_plain.specs.Busy.{resend};
 ghost use Rattle.homa_plain.specs.AtClient.{request_resent};
 ghost use Rattle.homa_plain.specs.declared.id.CallId.{CallId};
 ghost use Rattle.homa_plain.specs.Rules.{Moment as PlainMoment};

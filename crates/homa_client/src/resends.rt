@@ -1,4 +1,5 @@
 //! RESEND after silence: when a call asks for bytes again, for which, and when it times out.
+//! `homa_server/src/resends` is the server's side.
 ghost use Rattle.std.specs.Prelude.{◌≡◌, ℕ, ◌<◌, ◌≤◌, IfSome, IsSomeAnd};
 ghost use Rattle.std.specs.Option.{option_map};
 ghost use Rattle.range_set.specs.Fits.{bounds};

@@ -4,7 +4,8 @@
 ghost use Rattle.std.specs.Prelude.{◌≡◌, ◌≤◌, IsSomeAnd};
 ghost use Rattle.homa_plain.specs.declared.settings.Settings.{Settings};
 ghost use Rattle.homa_plain.specs.Settings.{IsValid};
-ghost use Rattle.homa_plain.specs.Sending.{may_send_request, while_new, client_granted};
+ghost use Rattle.homa_plain.specs.SentNext.{may_send_request};
+ghost use Rattle.homa_plain.specs.Sending.{while_new, client_granted};
 ghost use Rattle.msg_pool.specs.Pool.{Pool};
 ghost use Rattle.homa_in.specs.Pooled.{IsInPool, Moves};
 ghost use Rattle.homa_in.specs.Sends.{IfSent, IsAffordable};

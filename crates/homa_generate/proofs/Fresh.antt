@@ -14,7 +14,8 @@ use Rattle.homa_plain.specs.Entries.{PlainEntry, PlainClock, PlainDeliver}
 use Rattle.homa_plain.specs.Packets.{Packet, receiver}
 use Rattle.homa_plain.specs.Host.{Host, packets_in}
 use Rattle.homa_plain.specs.Script.{Given, GivenEvent, GivenTicks}
-use Rattle.homa_plain.specs.Steps.{Work, start_fault, call_step, arrival_step, turn_step}
+use Rattle.homa_plain.specs.Work.{Work}
+use Rattle.homa_plain.specs.Steps.{start_fault, call_step, arrival_step, turn_step}
 use Rattle.homa_plain.specs.World.{World, SentPacket, Outcome, Refused, Done, outcome, stamped, stepped, started, calls_from, arrives_at, is_late}
 use Rattle.homa_plain.specs.World.{delivered, last_tick, turns, host_at, own_clock, next_answer}
 use Rattle.homa_plain.specs.Replay.{Happening, bare, turns_of, ticks, events_of, carried}

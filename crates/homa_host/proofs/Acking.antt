@@ -7,8 +7,9 @@ use Rattle.homa_plain.specs.Packets.{calls_of}
 use Rattle.plain_sets.specs.Maps.{get}
 use Rattle.homa_plain.specs.declared.id.CallId.{CallId}
 use Rattle.homa_plain.specs.declared.settings.Settings.{Settings}
-use Rattle.homa_plain.specs.AtServer.{server_acked}
-use Rattle.homa_plain.specs.Steps.{Work, acked, served, moment}
+use Rattle.homa_plain.specs.Tombstones.{server_acked}
+use Rattle.homa_plain.specs.Work.{Work}
+use Rattle.homa_plain.specs.Steps.{acked, served, moment}
 use Rattle.host_view.specs.declared.outbox.SentFrame.{SentFrame}
 use Rattle.homa_host.specs.Amid.{Amid}
 use Rattle.homa_host.specs.declared.parts.HostParts.{HostParts}

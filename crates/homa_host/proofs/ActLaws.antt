@@ -9,7 +9,8 @@ use Rattle.homa_plain.specs.Host.{Host, free_beside}
 use Rattle.homa_plain.specs.Rows.{ClientRow}
 use Rattle.homa_plain.specs.Rules.{Moment, Did}
 use Rattle.homa_plain.specs.Timers.{OfClient, client_acts}
-use Rattle.homa_plain.specs.Steps.{Work, moment, client_acted, asked}
+use Rattle.homa_plain.specs.Work.{Work}
+use Rattle.homa_plain.specs.Steps.{moment, client_acted, asked}
 use Rattle.step_laws.proofs.OwnOrders.{Own, acts_at-own}
 use Rattle.msg_pool.specs.Pool.{Pool}
 use Rattle.homa_in.specs.Pooled.{AreIn}

@@ -11,7 +11,10 @@ use Rattle.homa_plain.specs.declared.settings.Settings.{Settings}
 use Rattle.homa_plain.specs.Host.{Host, with_finished, finished_at}
 use Rattle.homa_plain.specs.Rows.{ClientRow, ServerRow, set_row}
 use Rattle.homa_plain.specs.Rules.{Did}
-use Rattle.homa_plain.specs.Steps.{Work, notes, tells, posts, tells_cutoffs, acknowledged, finishes, said, asked, served}
+use Rattle.homa_plain.specs.Work.{Work, tells, posts, said}
+use Rattle.homa_plain.specs.CutoffsPackets.{notes, tells_cutoffs}
+use Rattle.homa_plain.specs.FiveAcks.{acknowledged, finishes}
+use Rattle.homa_plain.specs.Steps.{asked, served}
 use Rattle.step_laws.specs.StepLaws.{HasOwnOrders}
 use Rattle.step_laws.proofs.ToldBy.{asked-carried, asked-clients, asked-servers}
 use Rattle.step_laws.proofs.OwnOrders.{Own}

@@ -7,7 +7,8 @@ use Rattle.homa_plain.specs.declared.packet.Body.TheVariants as body
 use Rattle.homa_plain.specs.declared.settings.Settings.{Settings}
 use Rattle.homa_plain.specs.Entries.{PlainEntry}
 use Rattle.homa_plain.specs.Host.{Host, Says, peer_cutoffs}
-use Rattle.homa_plain.specs.Steps.{Work, begun, tells, is_newer, hears_cutoffs}
+use Rattle.homa_plain.specs.Work.{Work, begun, tells}
+use Rattle.homa_plain.specs.CutoffsPackets.{is_newer, hears_cutoffs}
 use Rattle.host_view.specs.declared.outbox.SentFrame.{SentFrame}
 use Rattle.host_view.proofs.Pump.{later_ready}
 use Rattle.host_view.specs.declared.mark.Mark.{Mark}

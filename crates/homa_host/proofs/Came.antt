@@ -19,10 +19,14 @@ use Rattle.homa_plain.specs.Host.{Host, Told, Says, Sends, peer_cutoffs}
 use Rattle.homa_plain.specs.Packets.{Packet, packet_between, sender_of, call_between, server_between, acks, acks_in}
 use Rattle.homa_plain.specs.Rows.{ServerRow, State, Receiving, Held, Replying, Buried}
 use Rattle.homa_plain.specs.Rules.{Answer, Moment, Say, Tells, Posts}
-use Rattle.homa_plain.specs.AtServer.{server_gets, server_acked, state_acked, row_gets, unknown_gets}
+use Rattle.homa_plain.specs.AtServer.{server_gets, row_gets, unknown_gets}
+use Rattle.homa_plain.specs.Tombstones.{server_acked, state_acked}
 use Rattle.homa_plain.specs.AtClient.{client_gets}
-use Rattle.homa_plain.specs.Steps.{Asked, asked_in, Work, begun, tells, said, served, moment, hears_cutoffs, is_newer, comes_to_row, acked, takes}
-use Rattle.homa_plain.specs.Steps.{is_stale, comes}
+use Rattle.homa_plain.specs.Steps.{Asked, asked_in, served, moment, comes_to_row, acked, takes}
+use Rattle.homa_plain.specs.Work.{Work, begun, tells, said}
+use Rattle.homa_plain.specs.CutoffsPackets.{hears_cutoffs, is_newer}
+use Rattle.homa_plain.specs.OldPackets.{is_stale}
+use Rattle.homa_plain.specs.Steps.{comes}
 use Rattle.homa_plain.specs.Wire.{FitsKind, latest}
 use Rattle.homa_plain.proofs.CallOrder.{calls_are}
 use Rattle.step_laws.specs.StepLaws.{run_count}

@@ -8,7 +8,8 @@ use Rattle.homa_plain.specs.declared.packet.Role.TheVariants.{Client}
 use Rattle.homa_plain.specs.Host.{Host}
 use Rattle.homa_plain.specs.Rows.{ClientRow}
 use Rattle.homa_plain.specs.Sending.{Arriving, client_granted}
-use Rattle.homa_plain.specs.Steps.{Work, grants_at, client_is_granted}
+use Rattle.homa_plain.specs.Work.{Work}
+use Rattle.homa_plain.specs.Steps.{grants_at, client_is_granted}
 use Rattle.homa_plain.specs.Timers.{Place, OfClient}
 use Rattle.step_laws.specs.StepLaws.{HasOwnOrders}
 use Rattle.step_laws.proofs.OwnOrders.{client_granted-own}

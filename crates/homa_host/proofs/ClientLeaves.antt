@@ -14,8 +14,10 @@ use Rattle.homa_plain.specs.Host.{Host}
 use Rattle.homa_plain.specs.Outgoing.{next_range, IsSound}
 use Rattle.homa_plain.specs.Rows.{ClientRow}
 use Rattle.homa_plain.specs.Settings.{patience}
-use Rattle.homa_plain.specs.Sending.{Leaving, may_send_request, client_sends, while_new, departures}
-use Rattle.homa_plain.specs.Steps.{Work, pumped_once, leaves_from, client_leaves, request_leaves}
+use Rattle.homa_plain.specs.SentNext.{Leaving, may_send_request, departures}
+use Rattle.homa_plain.specs.Sending.{client_sends, while_new}
+use Rattle.homa_plain.specs.Work.{Work}
+use Rattle.homa_plain.specs.SentNext.{pumped_once, leaves_from, client_leaves, request_leaves}
 use Rattle.homa_plain.specs.Timers.{OfClient}
 use Rattle.step_laws.specs.StepLaws.{HasOwnOrders}
 use Rattle.step_laws.proofs.OwnOrders.{client_leaves-own}

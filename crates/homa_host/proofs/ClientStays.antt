@@ -13,7 +13,7 @@ use Rattle.homa_plain.specs.Host.{Host}
 use Rattle.homa_plain.specs.Incoming.{Incoming}
 use Rattle.homa_plain.specs.Rows.{ClientRow, RowsOf, set_row}
 use Rattle.homa_plain.specs.Sending.{Arriving, arrivals, arriving_at_client}
-use Rattle.homa_plain.specs.Steps.{Work}
+use Rattle.homa_plain.specs.Work.{Work}
 use Rattle.homa_plain.specs.Timers.{Place, OfClient, OfServer}
 use Rattle.step_laws.specs.StepLaws.{HasOwnOrders}
 use Rattle.homa_in.specs.Part as part

@@ -7,7 +7,8 @@ use Rattle.homa_plain.specs.declared.settings.Settings.{Settings}
 use Rattle.homa_plain.specs.Entries.{PlainRun}
 use Rattle.homa_plain.specs.Host.{Host, Told, Says, Sends}
 use Rattle.homa_plain.specs.Rules.{Answer}
-use Rattle.homa_plain.specs.Steps.{Work, ended, has_run, Asked, asked_in}
+use Rattle.homa_plain.specs.Work.{Work}
+use Rattle.homa_plain.specs.Steps.{ended, has_run, Asked, asked_in}
 use Rattle.step_laws.specs.StepLaws.{run_count}
 use Rattle.step_laws.proofs.Places.{all-append}
 use Rattle.step_laws.proofs.StepEnd.{ended-calm}

@@ -15,7 +15,8 @@ use Rattle.homa_plain.specs.Choice.{due}
 use Rattle.homa_plain.specs.Host.{Host}
 use Rattle.homa_plain.specs.Rows.{ClientRow, ServerRow}
 use Rattle.homa_plain.specs.Timers.{Place, OfClient, OfServer, Timer, timer, timer_key, timers, client_deadline, server_deadline}
-use Rattle.homa_plain.specs.Steps.{Work, now_of, acts_at}
+use Rattle.homa_plain.specs.Work.{Work, now_of}
+use Rattle.homa_plain.specs.Steps.{acts_at}
 use Rattle.step_laws.specs.StepLaws.{first_acts}
 use Rattle.homa_timers.specs.Armed as armed
 use Rattle.host_places.specs.Placed.{Placed, StandsAt, spot_at}

@@ -4,8 +4,9 @@ use Rattle.std.proofs.lemmas.List.{length-map}
 use Rattle.homa_plain.specs.declared.settings.Settings.{Settings}
 use Rattle.homa_plain.specs.Choice.{least}
 use Rattle.homa_plain.specs.Host.{Host, packets_in}
-use Rattle.homa_plain.specs.Sending.{Leaving, leaving_key, departures}
-use Rattle.homa_plain.specs.Steps.{Work, first_leaves, pumped_once, pump}
+use Rattle.homa_plain.specs.SentNext.{Leaving, leaving_key, departures}
+use Rattle.homa_plain.specs.Work.{Work}
+use Rattle.homa_plain.specs.SentNext.{first_leaves, pumped_once, pump}
 use Rattle.host_view.specs.declared.outbox.SentFrame.{SentFrame}
 use Rattle.host_view.specs.Frames.{frame_of}
 use Rattle.host_view.proofs.Pump as seen_pump

@@ -13,7 +13,9 @@ use Rattle.homa_plain.specs.Host.{Host}
 use Rattle.homa_plain.specs.Packets.{Packet, call_between, packet_between}
 use Rattle.homa_plain.specs.Rules.{Answer}
 use Rattle.homa_plain.specs.Timers.{Place, OfClient, OfServer}
-use Rattle.homa_plain.specs.Steps.{Work, begun, refilled, starts, comes, acts, ended, call_step, arrival_step, turn_step, Asked, asked_in}
+use Rattle.homa_plain.specs.Work.{Work, begun}
+use Rattle.homa_plain.specs.Credit.{refilled}
+use Rattle.homa_plain.specs.Steps.{starts, comes, acts, ended, call_step, arrival_step, turn_step, Asked, asked_in}
 use Rattle.step_laws.specs.StepLaws.{IsBounded}
 use Rattle.step_laws.proofs.Bounds.{call-bounded, arrival-bounded, turn-bounded}
 use Rattle.homa_in.specs.Pooled.{IsInPool, HasNumber}

@@ -7,7 +7,8 @@ use Rattle.homa_plain.specs.declared.packet.Packet.{Packet as WirePacket}
 use Rattle.homa_plain.specs.declared.settings.Settings.{Settings}
 use Rattle.homa_plain.specs.Rows.{ClientRow}
 use Rattle.homa_plain.specs.Rules.{Did, Piece}
-use Rattle.homa_plain.specs.Steps.{Work, asked}
+use Rattle.homa_plain.specs.Work.{Work}
+use Rattle.homa_plain.specs.Steps.{asked}
 use Rattle.msg_pool.specs.Pool.{Pool}
 use Rattle.host_places.specs.Placed.{StandsAt, spot_at}
 use Rattle.homa_client.specs.Held.{HeldRow, seen_row}

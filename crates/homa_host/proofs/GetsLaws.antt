@@ -15,7 +15,8 @@ use Rattle.homa_plain.specs.Packets.{Packet, sender, packet_between}
 use Rattle.homa_plain.specs.Rows.{ClientRow}
 use Rattle.homa_plain.specs.Rules.{Moment, Did}
 use Rattle.homa_plain.specs.AtClient.{client_gets}
-use Rattle.homa_plain.specs.Steps.{Work, moment, asked}
+use Rattle.homa_plain.specs.Work.{Work}
+use Rattle.homa_plain.specs.Steps.{moment, asked}
 use Rattle.step_laws.proofs.OwnOrders.{Own, row-own}
 use Rattle.msg_pool.specs.Pool.{Pool, leased_pages, free_pages}
 use Rattle.homa_in.specs.Pooled.{AreIn, pages_of}

@@ -8,7 +8,8 @@ use Rattle.homa_plain.specs.declared.settings.Settings.{Settings}
 use Rattle.homa_plain.specs.Choice.{chosen, chosen_by, sender}
 use Rattle.homa_plain.specs.Host.{Host}
 use Rattle.homa_plain.specs.Sending.{Arriving, arrivals}
-use Rattle.homa_plain.specs.Steps.{Work, gives_grants}
+use Rattle.homa_plain.specs.Work.{Work}
+use Rattle.homa_plain.specs.Steps.{gives_grants}
 use Rattle.host_view.specs.declared.outbox.SentFrame.{SentFrame}
 use Rattle.homa_grants.specs.Entries as entry
 use Rattle.host_view.specs.Seen.{slot_of, entry_of}

@@ -8,7 +8,8 @@ use Rattle.homa_plain.specs.declared.packet.Role.{Role}
 use Rattle.homa_plain.specs.Host.{Host, Told}
 use Rattle.homa_plain.specs.Rows.{RowsOf}
 use Rattle.homa_plain.specs.Sending.{Arriving}
-use Rattle.homa_plain.specs.Steps.{Work, posts, grants_at}
+use Rattle.homa_plain.specs.Work.{Work, posts}
+use Rattle.homa_plain.specs.Steps.{grants_at}
 use Rattle.homa_plain.specs.Timers.{Place}
 use Rattle.msg_pool.specs.Pool.{Pool}
 use Rattle.homa_in.specs.Part.{Part}

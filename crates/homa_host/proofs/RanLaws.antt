@@ -15,7 +15,9 @@ use Rattle.homa_plain.specs.Entries.{PlainShift, PlainJunk, PlainStale, PlainSen
 use Rattle.homa_plain.specs.Entries.{PlainFullRows, PlainFullPages, PlainBalance, PlainRecv, PlainFinished, PlainRefused, PlainStalled}
 use Rattle.homa_plain.specs.Rows.{ServerRow, set_row}
 use Rattle.homa_plain.specs.Rules.{Answer, Say, Tells, Posts, Did}
-use Rattle.homa_plain.specs.Steps.{Work, notes, posts, tells_cutoffs, said, served, is_newer, hears_cutoffs, has_run}
+use Rattle.homa_plain.specs.Work.{Work, posts, said}
+use Rattle.homa_plain.specs.CutoffsPackets.{notes, tells_cutoffs, is_newer, hears_cutoffs}
+use Rattle.homa_plain.specs.Steps.{served, has_run}
 use Rattle.step_laws.proofs.Places.{all-append}
 use Rattle.host_view.specs.declared.mark.Mark.{Mark}
 use Rattle.host_view.specs.Marks.{mark_of, marks_from, has_ran, response_of, IsReply, IsAllowed, IsWhole}

@@ -16,13 +16,22 @@ use Rattle.homa_plain.specs.Packets.{Packet, sender, acks}
 use Rattle.homa_plain.specs.Rows.{ClientRow, ServerRow, set_row, State, Receiving, Held, Replying, Buried}
 use Rattle.homa_plain.specs.Host.{Host, finished_at, peer_cutoffs, packets_in}
 use Rattle.homa_plain.specs.Rules.{Answer, Did}
-use Rattle.homa_plain.specs.AtServer.{server_acked}
+use Rattle.homa_plain.specs.Tombstones.{server_acked}
 use Rattle.homa_plain.specs.Timers.{Place, OfClient, OfServer, Timer, timer_key, timers, client_acts, server_acts}
-use Rattle.homa_plain.specs.Sending.{Arriving, arrivals, Leaving, leaving_key, departures, response_content}
-use Rattle.homa_plain.specs.Steps.{Work, now_of, begun, refilled, tells, notes, tells_cutoffs, acknowledged, finishes, said, asked, served, moment}
-use Rattle.homa_plain.specs.Steps.{is_newer, hears_cutoffs, comes_to_row, acked, takes, is_stale, comes, client_acted, server_acted, acts_at, all_act}
-use Rattle.homa_plain.specs.Steps.{acts, client_is_granted, server_is_granted, grants_at, all_granted, gives_grants, request_leaves, response_leaves}
-use Rattle.homa_plain.specs.Steps.{client_leaves, state_leaves, server_leaves, leaves_from, first_leaves, pumped_once, pumps, ended, starts}
+use Rattle.homa_plain.specs.Sending.{Arriving, arrivals, response_content}
+use Rattle.homa_plain.specs.SentNext.{Leaving, leaving_key, departures}
+use Rattle.homa_plain.specs.Work.{Work, now_of, begun, tells, said}
+use Rattle.homa_plain.specs.Credit.{refilled}
+use Rattle.homa_plain.specs.CutoffsPackets.{notes, tells_cutoffs}
+use Rattle.homa_plain.specs.FiveAcks.{acknowledged, finishes}
+use Rattle.homa_plain.specs.Steps.{asked, served, moment}
+use Rattle.homa_plain.specs.CutoffsPackets.{is_newer, hears_cutoffs}
+use Rattle.homa_plain.specs.Steps.{comes_to_row, acked, takes, comes, client_acted, server_acted, acts_at, all_act}
+use Rattle.homa_plain.specs.OldPackets.{is_stale}
+use Rattle.homa_plain.specs.Steps.{acts, client_is_granted, server_is_granted, grants_at, all_granted, gives_grants}
+use Rattle.homa_plain.specs.SentNext.{request_leaves, response_leaves}
+use Rattle.homa_plain.specs.SentNext.{client_leaves, state_leaves, server_leaves, leaves_from, first_leaves, pumped_once, pumps}
+use Rattle.homa_plain.specs.Steps.{ended, starts}
 use Rattle.homa_plain.specs.Steps.{call_step, arrival_step, turn_step}
 use Rattle.step_laws.proofs.StepEnd.{left}
 

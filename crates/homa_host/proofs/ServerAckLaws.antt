@@ -8,8 +8,9 @@ use Rattle.homa_plain.specs.declared.settings.Settings.{Settings}
 use Rattle.homa_plain.specs.Host.{Host, free_beside}
 use Rattle.homa_plain.specs.Rows.{ServerRow, State, Receiving, Held, Replying, Buried, set_row}
 use Rattle.homa_plain.specs.Rules.{Moment, Did}
-use Rattle.homa_plain.specs.AtServer.{server_acked, state_acked}
-use Rattle.homa_plain.specs.Steps.{Work, moment, served}
+use Rattle.homa_plain.specs.Tombstones.{server_acked, state_acked}
+use Rattle.homa_plain.specs.Work.{Work}
+use Rattle.homa_plain.specs.Steps.{moment, served}
 use Rattle.step_laws.specs.StepLaws.{HasOwnOrders}
 use Rattle.step_laws.proofs.Orders.{server_acked-kept}
 use Rattle.step_laws.proofs.OwnOrders.{Own, served-own}

@@ -10,7 +10,8 @@ use Rattle.homa_plain.specs.Host.{Host, free_beside}
 use Rattle.homa_plain.specs.Rows.{ServerRow}
 use Rattle.homa_plain.specs.Rules.{Moment, Did}
 use Rattle.homa_plain.specs.Timers.{OfServer, server_acts}
-use Rattle.homa_plain.specs.Steps.{Work, moment, server_acted, served}
+use Rattle.homa_plain.specs.Work.{Work}
+use Rattle.homa_plain.specs.Steps.{moment, server_acted, served}
 use Rattle.step_laws.proofs.OwnOrders.{Own, acts_at-own}
 use Rattle.msg_pool.specs.Pool.{Pool}
 use Rattle.host_places.specs.Placed.{Placed, StandsAt, ArePlaced}

@@ -18,7 +18,9 @@ use Rattle.homa_plain.specs.Rows.{ClientRow, ServerRow, set_row}
 use Rattle.homa_plain.specs.Rules.{Moment, Answer, Did, Piece}
 use Rattle.homa_plain.specs.AtServer.{server_gets}
 use Rattle.homa_plain.specs.Timers.{OfServer}
-use Rattle.homa_plain.specs.Steps.{Work, moment, begun, is_newer, hears_cutoffs, served}
+use Rattle.homa_plain.specs.Work.{Work, begun}
+use Rattle.homa_plain.specs.Steps.{moment, served}
+use Rattle.homa_plain.specs.CutoffsPackets.{is_newer, hears_cutoffs}
 use Rattle.step_laws.proofs.OwnOrders.{Own, row-own}
 use Rattle.step_laws.proofs.ToldBy.{served-carried, served-clients, served-servers}
 use Rattle.msg_pool.specs.Pool.{Pool, leased_pages, free_pages}

@@ -9,7 +9,8 @@ use Rattle.homa_plain.specs.Host.{Host}
 use Rattle.homa_plain.specs.Rows.{ServerRow}
 use Rattle.homa_plain.specs.Sending.{server_granted}
 use Rattle.homa_plain.specs.Sending as sending
-use Rattle.homa_plain.specs.Steps.{Work, grants_at, server_is_granted}
+use Rattle.homa_plain.specs.Work.{Work}
+use Rattle.homa_plain.specs.Steps.{grants_at, server_is_granted}
 use Rattle.homa_plain.specs.Timers.{Place, OfServer}
 use Rattle.step_laws.specs.StepLaws.{HasOwnOrders}
 use Rattle.step_laws.proofs.OwnOrders.{server_granted-own}

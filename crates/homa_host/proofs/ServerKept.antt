@@ -8,7 +8,8 @@ use Rattle.homa_plain.specs.declared.settings.Settings.{Settings}
 use Rattle.homa_plain.specs.Host.{Host}
 use Rattle.homa_plain.specs.Rows.{ClientRow, ServerRow, set_row}
 use Rattle.homa_plain.specs.Rules.{Did}
-use Rattle.homa_plain.specs.Steps.{Work, served}
+use Rattle.homa_plain.specs.Work.{Work}
+use Rattle.homa_plain.specs.Steps.{served}
 use Rattle.homa_plain.specs.Timers.{Place, OfClient, OfServer}
 use Rattle.homa_plain.proofs.CallOrder.{call_total, call_same}
 use Rattle.step_laws.specs.StepLaws.{HasOwnOrders}

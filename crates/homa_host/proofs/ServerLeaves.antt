@@ -16,8 +16,10 @@ use Rattle.homa_plain.specs.Outgoing as outgoing
 use Rattle.homa_plain.specs.Outgoing.{Outgoing, has_waiting, next_range, IsFront, IsIdle}
 use Rattle.homa_plain.proofs.OutgoingLaws.{front-next_range, idle-waiting}
 use Rattle.homa_plain.specs.Rows.{ServerRow, State, Receiving, Held, Replying, Buried}
-use Rattle.homa_plain.specs.Sending.{Leaving, departures, response_content}
-use Rattle.homa_plain.specs.Steps.{Work, pumped_once, leaves_from, server_leaves, response_leaves}
+use Rattle.homa_plain.specs.SentNext.{Leaving, departures}
+use Rattle.homa_plain.specs.Sending.{response_content}
+use Rattle.homa_plain.specs.Work.{Work}
+use Rattle.homa_plain.specs.SentNext.{pumped_once, leaves_from, server_leaves, response_leaves}
 use Rattle.homa_plain.specs.Timers.{OfServer}
 use Rattle.msg_pool.specs.Pool.{Pool}
 use Rattle.step_laws.specs.StepLaws.{HasOwnOrders}

@@ -13,7 +13,7 @@ use Rattle.homa_plain.specs.Choice.{seen}
 use Rattle.homa_plain.specs.Host.{Host}
 use Rattle.homa_plain.specs.Rows.{ServerRow, State, Receiving, Held, Replying, Buried, set_row}
 use Rattle.homa_plain.specs.Sending.{Arriving as Arrives, arrivals, arriving_at_server}
-use Rattle.homa_plain.specs.Steps.{Work}
+use Rattle.homa_plain.specs.Work.{Work}
 use Rattle.homa_plain.specs.Timers.{OfServer}
 use Rattle.step_laws.specs.StepLaws.{HasOwnOrders}
 use Rattle.step_laws.proofs.Others.{set_row-others}

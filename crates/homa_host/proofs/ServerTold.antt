@@ -11,7 +11,8 @@ use Rattle.homa_plain.specs.Host.{Host}
 use Rattle.homa_plain.specs.Entries.{PlainRun}
 use Rattle.homa_plain.specs.Rows.{ServerRow}
 use Rattle.homa_plain.specs.Rules.{Moment, Answer, Did, Piece, Say, Tells, Posts}
-use Rattle.homa_plain.specs.Steps.{Work, moment, begun, comes_to_row, said, served, Asked, asked_in}
+use Rattle.homa_plain.specs.Work.{Work, begun, said}
+use Rattle.homa_plain.specs.Steps.{moment, comes_to_row, served, Asked, asked_in}
 use Rattle.homa_plain.specs.Packets.{Packet, packet_between}
 use Rattle.msg_pool.specs.Pool.{Pool}
 use Rattle.homa_in.specs.Pieces.{piece_in}

@@ -10,7 +10,8 @@ use Rattle.plain_sets.proofs.MapMembers.{same_some}
 use Rattle.homa_plain.specs.declared.id.CallId.{CallId}
 use Rattle.homa_plain.specs.Rows.{ClientRow, ServerRow, RowsOf}
 use Rattle.homa_plain.specs.Timers.{Place, OfClient, OfServer}
-use Rattle.homa_plain.specs.Sending.{Arriving as Arrives, arrivals, arriving_at_client, arriving_at_server, Leaving}
+use Rattle.homa_plain.specs.Sending.{Arriving as Arrives, arrivals, arriving_at_client, arriving_at_server}
+use Rattle.homa_plain.specs.SentNext.{Leaving}
 use Rattle.host_places.specs.Mapped.{mapped}
 use Rattle.host_places.specs.Placed.{Placed, StandsAt, spot_at}
 use Rattle.host_places.proofs.MappedLaws.{get-mapped}

@@ -11,7 +11,8 @@ use Rattle.homa_plain.specs.declared.settings.Settings.{Settings}
 use Rattle.homa_plain.specs.Calls.{is_host}
 use Rattle.homa_plain.specs.Host.{Host}
 use Rattle.homa_plain.specs.Rows.{ClientRow}
-use Rattle.homa_plain.specs.Steps.{begun, starts, start_fault, next_id, new_call}
+use Rattle.homa_plain.specs.Work.{begun}
+use Rattle.homa_plain.specs.Steps.{starts, start_fault, next_id, new_call}
 use Rattle.homa_plain.specs.Timers.{Place, OfClient, OfServer}
 use Rattle.step_laws.specs.StepLaws.{HasOwnOrders}
 use Rattle.step_laws.proofs.Others.{get-set_row}

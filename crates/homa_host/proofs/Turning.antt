@@ -5,7 +5,8 @@ use Rattle.plain_sets.specs.Ordered.{first_of}
 use Rattle.homa_plain.specs.declared.settings.Settings.{Settings}
 use Rattle.homa_plain.specs.Choice.{due}
 use Rattle.homa_plain.specs.Timers.{Timer, timer_key, timers}
-use Rattle.homa_plain.specs.Steps.{Work, now_of, acts}
+use Rattle.homa_plain.specs.Work.{Work, now_of}
+use Rattle.homa_plain.specs.Steps.{acts}
 use Rattle.step_laws.specs.StepLaws.{first_acts, picked_anew}
 use Rattle.step_laws.proofs.Picking.{acts-picked}
 use Rattle.homa_timers.specs.Armed as armed

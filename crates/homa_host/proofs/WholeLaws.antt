@@ -12,7 +12,10 @@ use Rattle.homa_plain.specs.Host.{Host, Says, Tuning, Tuned, tuned, counted, reb
 use Rattle.homa_plain.specs.Entries.{PlainBalance}
 use Rattle.homa_plain.specs.Rows.{ClientRow, ServerRow, set_row}
 use Rattle.homa_plain.specs.Rules.{Say, Tells, Posts, Did}
-use Rattle.homa_plain.specs.Steps.{Work, notes, tells, posts, tells_cutoffs, acknowledged, finishes, said, asked, served}
+use Rattle.homa_plain.specs.Work.{Work, tells, posts, said}
+use Rattle.homa_plain.specs.CutoffsPackets.{notes, tells_cutoffs}
+use Rattle.homa_plain.specs.FiveAcks.{acknowledged, finishes}
+use Rattle.homa_plain.specs.Steps.{asked, served}
 use Rattle.step_laws.proofs.Places.{all-append}
 use Rattle.host_view.specs.Marks.{IsWhole}
 

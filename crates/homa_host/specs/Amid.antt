@@ -2,7 +2,8 @@
 use Rattle.std.specs.Prelude.{◌≡◌, ◌+◌, ◌≤◌, ◌<◌, ℕ, None, Some, List, length}
 use Rattle.std.specs.List.{AllByRecursion}
 use Rattle.homa_plain.specs.Host.{packets_in}
-use Rattle.homa_plain.specs.Steps.{Work, pumped_once}
+use Rattle.homa_plain.specs.Work.{Work}
+use Rattle.homa_plain.specs.SentNext.{pumped_once}
 use Rattle.host_view.specs.declared.outbox.SentFrame.{SentFrame}
 use Rattle.host_view.specs.Frames.{frames_of, IsFormed}
 use Rattle.host_view.specs.Marks.{marks_from}

@@ -6,7 +6,8 @@ use Rattle.homa_plain.specs.declared.packet.Body.TheVariants as body
 use Rattle.homa_plain.specs.declared.packet.Role.{Role}
 use Rattle.homa_plain.specs.Choice.{seen as message_of}
 use Rattle.homa_plain.specs.Sending.{Arriving, arrivals}
-use Rattle.homa_plain.specs.Steps.{Work, posts, grants_at}
+use Rattle.homa_plain.specs.Work.{Work, posts}
+use Rattle.homa_plain.specs.Steps.{grants_at}
 use Rattle.msg_pool.specs.Pool.{Pool}
 use Rattle.homa_in.specs.Part.{Part, IsIn, seen}
 use Rattle.host_view.specs.declared.outbox.SentFrame.{SentFrame}

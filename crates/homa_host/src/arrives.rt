@@ -8,7 +8,8 @@ ghost use Rattle.homa_plain.specs.declared.packet.Role.TheVariants.{Client as Of
 ghost use Rattle.homa_plain.specs.Wire.{IsWellFormed, IsCall};
 ghost use Rattle.homa_plain.specs.Packets.{acks, calls_of, packet_between};
 ghost use Rattle.homa_plain.specs.Rules.{Answer};
-ghost use Rattle.homa_plain.specs.Steps.{Work, begun, comes, acked};
+ghost use Rattle.homa_plain.specs.Work.{Work, begun};
+ghost use Rattle.homa_plain.specs.Steps.{comes, acked};
 ghost use Rattle.host_view.specs.Marks.{response_of, IsReply, IsWhole};
 ghost use Rattle.host_view.specs.Done.{arriving};
 ghost use Rattle.homa_host.specs.Parts.{host_of, seen_of, IsKept};

@@ -7,7 +7,8 @@ ghost use Rattle.homa_plain.specs.declared.packet.Role.TheVariants.{Server as Of
 ghost use Rattle.homa_plain.specs.Wire.{IsWellFormed};
 ghost use Rattle.homa_plain.specs.Packets.{Packet as PlainPacket, packet_between};
 ghost use Rattle.homa_plain.specs.Rules.{Answer};
-ghost use Rattle.homa_plain.specs.Steps.{Work, comes_to_row};
+ghost use Rattle.homa_plain.specs.Work.{Work};
+ghost use Rattle.homa_plain.specs.Steps.{comes_to_row};
 ghost use Rattle.msg_pool.specs.Pool.{Pool};
 ghost use Rattle.homa_in.specs.Pieces.{piece_in};
 ghost use Rattle.host_places.specs.Placed.{StandsAt, spot_at};

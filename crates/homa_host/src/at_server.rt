@@ -9,8 +9,10 @@ ghost use Rattle.homa_plain.specs.declared.packet.Role.TheVariants.{Client as Of
 ghost use Rattle.homa_plain.specs.Wire.{IsWellFormed};
 ghost use Rattle.homa_plain.specs.Packets.{Packet as PlainPacket, packet_between};
 ghost use Rattle.homa_plain.specs.Rules.{Answer, Moment};
-ghost use Rattle.homa_plain.specs.AtServer.{server_acked};
-ghost use Rattle.homa_plain.specs.Steps.{Work, begun, hears_cutoffs, comes_to_row, served, moment};
+ghost use Rattle.homa_plain.specs.Tombstones.{server_acked};
+ghost use Rattle.homa_plain.specs.Work.{Work, begun};
+ghost use Rattle.homa_plain.specs.CutoffsPackets.{hears_cutoffs};
+ghost use Rattle.homa_plain.specs.Steps.{comes_to_row, served, moment};
 ghost use Rattle.msg_pool.specs.Pool.{Pool};
 ghost use Rattle.homa_in.specs.Pieces.{piece_in};
 ghost use Rattle.host_places.specs.Placed.{StandsAt, spot_at};

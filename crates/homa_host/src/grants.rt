@@ -4,7 +4,8 @@
 ghost use Rattle.std.specs.Prelude.{◌≡◌, ◌+◌, ◌≤◌, IsSomeAnd, option_copied};
 ghost use Rattle.homa_plain.specs.Choice.{new_end, seen as message_of};
 ghost use Rattle.homa_plain.specs.Sending.{Arriving};
-ghost use Rattle.homa_plain.specs.Steps.{Work, gives_grants};
+ghost use Rattle.homa_plain.specs.Work.{Work};
+ghost use Rattle.homa_plain.specs.Steps.{gives_grants};
 ghost use Rattle.msg_pool.specs.Pool.{Pool};
 ghost use Rattle.homa_in.specs.Part.{IsIn, seen};
 ghost use Rattle.homa_host.specs.Parts.{seen_of, IsKept};

@@ -5,7 +5,8 @@ ghost use Rattle.std.specs.Prelude.{◌≡◌, ◌+◌, ◌<◌, ◌≤◌, ◌^
 ghost use Rattle.plain_sets.specs.Maps.{empty};
 ghost use Rattle.homa_plain.specs.Settings.{IsValid};
 ghost use Rattle.homa_plain.specs.Host.{new_host};
-ghost use Rattle.homa_plain.specs.Steps.{Work, begun, starts, start_fault, next_id, ended};
+ghost use Rattle.homa_plain.specs.Work.{Work, begun};
+ghost use Rattle.homa_plain.specs.Steps.{starts, start_fault, next_id, ended};
 ghost use Rattle.homa_host.specs.Parts.{host_of, seen_of, IsKept};
 ghost use Rattle.homa_host.specs.Places.{IsPlaceOf};
 ghost use Rattle.homa_host.specs.Amid.{Amid, HasRoom, IsBegun};

@@ -3,7 +3,8 @@
 ghost use Rattle.std.specs.Prelude.{◌≡◌, ◌+◌, Some, IsSome};
 ghost use Rattle.std.specs.Option.{option_map};
 ghost use Rattle.homa_plain.specs.Choice.{least};
-ghost use Rattle.homa_plain.specs.Steps.{Work, pump};
+ghost use Rattle.homa_plain.specs.Work.{Work};
+ghost use Rattle.homa_plain.specs.SentNext.{pump};
 ghost use Rattle.host_places.specs.Placed.{spot_at};
 ghost use Rattle.homa_pacer.specs.Pace.{ready_key};
 ghost use Rattle.homa_host.specs.Parts.{IsKept};

@@ -10,10 +10,11 @@ use Rattle.plain_sets.specs.Numbers.{Numbers, with_range, without_range, ranges}
 use Rattle.plain_sets.specs.Ordered.{first_of}
 use Rattle.plain_sets.proofs.MapLaws.{empty_of_len, len-empty}
 use Rattle.range_set.specs.Fits.{bounds, front}
-use Rattle.homa_plain.specs.Outgoing.{Outgoing, opened, restart, grant, resend, Answer, Busy, Queued, front_of, sent, IsSound, AllWait}
+use Rattle.homa_plain.specs.Outgoing.{Outgoing, opened, restart, grant, front_of, sent, IsSound, AllWait}
+use Rattle.homa_plain.specs.Busy.{resend, Answer, Busy, Queued}
 use Rattle.homa_plain.proofs.OutgoingLaws.{sound-opened, sound-restart, sound-grant, sound-resend, sound-next, busy-cases, cases-busy, part-queued}
 use Rattle.range_set.specs.Changed.{AddsRange}
-use Rattle.homa_out.specs.declared.Resent.TheVariants.{Queued as ToldQueued, Busy as ToldBusy}
+use Rattle.homa_out.specs.declared.busy.Resent.TheVariants.{Queued as ToldQueued, Busy as ToldBusy}
 use Rattle.homa_out.specs.Answers.{answered}
 use Rattle.homa_out.specs.Kept.{IsKept}
 

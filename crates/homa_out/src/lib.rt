@@ -6,15 +6,16 @@
 //! ranges, so that a grant never fails and no call takes memory.
 #![tactic(auto)]
 
-ghost use Rattle.std.specs.Prelude.{◌≡◌, ◌+◌, ◌<◌, ◌≤◌, length, IfSome};
-ghost use Rattle.std.specs.Option.{option_map};
-ghost use Rattle.plain_sets.specs.Numbers.{with_range, ranges};
-ghost use Rattle.range_set.specs.Fits.{bounds};
-ghost use Rattle.homa_plain.specs.Outgoing.{opened, grant, resend, restart, next, left, has_waiting, IsSound};
-ghost use Rattle.homa_out.specs.Answers.{answered};
+mod busy;
+mod next_piece;
 
+ghost use Rattle.std.specs.Prelude.{◌≡◌, ◌<◌, ◌≤◌, length};
+ghost use Rattle.plain_sets.specs.Numbers.{with_range, ranges};
+ghost use Rattle.homa_plain.specs.Outgoing.{opened, grant, restart, IsSound};
+
+pub use busy::Resent;
 use homa_plain::LONGEST_MESSAGE;
-use range_set::{Changed, RangeSet};
+use range_set::RangeSet;
 use std::marker::Model;
 
 /// A message of 1 to 1000000 bytes that is sent.
@@ -40,15 +41,6 @@ impl Model for Outgoing {
     ghost view = { λ a. record { length = a.len; waiting = a.waiting; granted = a.granted; top = a.top; prio = a.prio; unsched = a.unsched } };
 
     ghost invariant = { λ a. IsKept (record { length = a.len; waiting = a.waiting; granted = a.granted; top = a.top; prio = a.prio; unsched = a.unsched }) };
-}
-
-/// The answer to a RESEND.
-#[derive(Clone, Copy, Debug, PartialEq, Eq)]
-pub enum Resent {
-    /// The bytes wait to be sent again.
-    Queued,
-    /// Nothing changed: there are no such bytes, all of them wait, or more than 63 ranges would wait.
-    Busy,
 }
 
 impl Outgoing {
@@ -83,27 +75,6 @@ impl Outgoing {
         }
     }
 
-    /// A RESEND of the bytes from `a` to `b` - 1 comes: those of the message wait again, and go out at `prio`.
-    pub fn resend(&mut self, a: u32, b: u32, prio: u8) -> Resent
-        requires { a < b }
-        ensures part { self.new ≡ (resend self.old a b prio).part }
-        ensures answer { result ≡ answered (resend self.old a b prio).answer }
-        ensures unchanged { result ≡ Resent.Busy → self.new ≡ self.old }
-    {
-        let end = b.min(self.len);
-        if self.waiting.has_all(a, end) {
-            return Resent::Busy;
-        }
-        match self.waiting.insert(a, end, 63) {
-            Changed::TooMany => Resent::Busy,
-            Changed::Count(_) => {
-                self.granted = self.granted.max(end);
-                self.prio = prio;
-                Resent::Queued
-            }
-        }
-    }
-
     /// Starts over: the bytes that need no grant wait, and nothing else.
     pub fn restart(&mut self)
         ensures { self.new ≡ restart self.old }
@@ -112,56 +83,11 @@ impl Outgoing {
         self.waiting = RangeSet::upto(self.granted);
     }
 
-    /// Takes the lowest waiting bytes to be sent, at most `seg` in a row: from the first to before the second number.
-    pub fn next(&mut self, seg: u32) -> Option<(u32, u32)>
-        requires { 1 ≤ seg }
-        ensures range { result ≡ option_map bounds (next self.old seg).range }
-        ensures part { self.new ≡ (next self.old seg).part }
-        ensures within { IfSome result (λ r. (r.0 < r.1) × (r.1 ≤ r.0 + seg) × (r.1 ≤ self.old.length)) }
-    {
-        let front = self.waiting.take_first(seg);
-        if let Some((_, to)) = front {
-            self.top = self.top.max(to);
-        }
-        front
-    }
-
-    /// The bytes that `next` would take.
-    pub fn peek(&self, seg: u32) -> Option<(u32, u32)>
-        requires { 1 ≤ seg }
-        ensures range { result ≡ option_map bounds (next self.now seg).range }
-        ensures within { IfSome result (λ r. (r.0 < r.1) × (r.1 ≤ r.0 + seg) × (r.1 ≤ self.now.length)) }
-    {
-        let (from, to) = self.waiting.first_below(self.granted)?;
-        Some((from, from + seg.min(to - from)))
-    }
-
-    /// The end of the bytes that were sent: the number after the greatest, 0 before the first.
-    pub fn top_sent(&self) -> u32
-        ensures { result ≡ self.now.top }
-    {
-        self.top
-    }
-
-    /// How many bytes lie above all that were sent.
-    pub fn left(&self) -> u32
-        ensures { result ≡ left self.now }
-    {
-        self.len - self.top
-    }
-
     /// The priority at which the granted bytes go out.
     pub fn prio(&self) -> u8
         ensures { result ≡ self.now.prio }
     {
         self.prio
-    }
-
-    /// Whether bytes wait to be sent, now or again.
-    pub fn waiting(&self) -> bool
-        ensures { result ≡ has_waiting self.now }
-    {
-        !self.waiting.is_empty()
     }
 
     /// How many bytes the message has: at most 1000000.

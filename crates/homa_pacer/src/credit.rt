@@ -1,4 +1,4 @@
-//! Credit: the payload bytes that a host may still send in this tick.
+//! Credit: the payload bytes that a host may still send in this tick. How far a host grants is in `homa_host/src/grants`.
 ghost use Rattle.std.specs.Prelude.{◌≡◌, ◌-◌, ◌≤◌};
 ghost use Rattle.homa_pacer.specs.Pace.{IsSound, refill};
 

@@ -1,6 +1,6 @@
 //! The messages of a host that may be sent: which goes first, and how many bytes may still go out.
-//! Rules: SRPT (the message with the fewest bytes left goes first), and the credit, which is filled up to `rate` once a
-//! tick.
+//! Rules: SRPT (`srpt`): the message with the fewest bytes left goes first; which piece of it, `homa_out/src/next_piece` says.
+//! The credit (`credit`), which is filled up to `rate` once a tick.
 //!
 //! The model: a [`Pacer`] is the list of the messages that may be sent, in the order of the bytes that are left of
 //! them, ties by an order number. Beside it stand the credit and the rate to which it is filled up. A message is named
@@ -9,18 +9,15 @@
 #![tactic(auto)]
 
 mod credit;
+mod srpt;
 
-ghost use Rattle.std.specs.Prelude.{◌≡◌, ◌+◌, ◌-◌, ◌<◌, ◌↔◌, [], length, map, IsNone, IfSome, IfOk};
-ghost use Rattle.std.specs.Option.{option_map};
+ghost use Rattle.std.specs.Prelude.{◌≡◌, ◌+◌, [], length, map, IfOk};
 ghost use Rattle.place_heap.specs.Held.{list_of};
-ghost use Rattle.plain_sets.specs.Ordered.{placed};
-ghost use Rattle.homa_plain.specs.Choice.{least};
 ghost use Rattle.homa_plain.specs.Settings.{IsValid};
-ghost use Rattle.homa_pacer.specs.Pace.{ready_key, without, IsOwnOrder, IsSound, item_of};
+ghost use Rattle.homa_pacer.specs.Pace.{IsSound, item_of};
 
 use homa_plain::Settings;
-use host_heap::{first, replace};
-use place_heap::{Key, PlaceHeap};
+use place_heap::PlaceHeap;
 use std::alloc::{AllocError, Global};
 use std::marker::Model;
 
@@ -66,43 +63,6 @@ impl Pacer {
             credit: settings.rate,
             refilled: 0,
         })
-    }
-
-    /// The message of a slot may be sent, and `left` bytes of it are left, whatever stood under the slot. Of two with
-    /// as many bytes left the one with the lower `order` is sent first.
-    pub fn ready(&mut self, slot: u32, left: u32, order: u64)
-        requires slot { slot < self.old.slots }
-        requires order { IsOwnOrder slot order self.old.ready }
-        ensures ready { self.new ≡ record self.old {
-          ready =
-              placed ready_key (record { slot = slot; left = left; order = order }) (without slot self.old.ready);
-        } }
-        ensures sound { IsSound self.new }
-    {
-        let key = Key {
-            first: u64::from(left),
-            second: order,
-        };
-        replace(&mut self.heap, slot, Some(key));
-    }
-
-    /// The message of a slot may not be sent any more, if it might.
-    pub fn idle(&mut self, slot: u32)
-        requires { slot < self.old.slots }
-        ensures idle { self.new ≡ record self.old { ready = without slot self.old.ready } }
-        ensures sound { IsSound self.new }
-    {
-        replace(&mut self.heap, slot, None);
-    }
-
-    /// The slot of the message to be sent next, if any may be sent.
-    pub fn pick(&self) -> Option<u32>
-        ensures least { result ≡ option_map (λ r. r.slot) (least ready_key self.now.ready) }
-        ensures none { IsNone result ↔ (self.now.ready ≡ []) }
-        ensures within { IfSome result (λ slot. slot < self.now.slots) }
-    {
-        let (slot, _) = first(&self.heap)?;
-        Some(slot)
     }
 
     /// The heap: the slots whose messages may be sent, with their keys.

@@ -14,8 +14,10 @@ use Rattle.plain_sets.proofs.RangeChanges.{ranges-one_more}
 use Rattle.plain_sets.proofs.CutLaws.{least}
 use Rattle.plain_sets.proofs.MapLaws.{empty_of_len}
 use Rattle.plain_sets.proofs.CountLaws.{none_left}
-use Rattle.homa_plain.specs.Outgoing.{Outgoing, restart, opened, grant_up_to, grant, Busy, Queued, Resent, is_busy, has_waiting, resend_up_to, resend}
-use Rattle.homa_plain.specs.Outgoing.{front_of, next_range, sent, next, Change, Grant, Resend, Restart, Send, changed, changed_by, IsSound, IsFront}
+use Rattle.homa_plain.specs.Outgoing.{Outgoing, restart, opened, grant_up_to, grant, has_waiting}
+use Rattle.homa_plain.specs.Busy.{Busy, Queued, Resent, is_busy, resend_up_to, resend}
+use Rattle.homa_plain.specs.Outgoing.{front_of, next_range, sent, next, IsSound, IsFront}
+use Rattle.homa_plain.specs.OutgoingChanges.{Change, Grant, Resend, Restart, Send, changed, changed_by}
 use Rattle.homa_plain.specs.Outgoing.{IsIdle, AllWait}
 use Rattle.homa_plain.proofs.PartSets.{member_cases, below-with_range, below-set_of_range, below-without_range, one_range, one_longer}
 use Rattle.homa_plain.proofs.PartSets.{ranges-front_less, with_without, full_range, range_full}

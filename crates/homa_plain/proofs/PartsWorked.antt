@@ -9,6 +9,8 @@ use Rattle.homa_plain.specs.Incoming as in_part
 use Rattle.homa_plain.specs.Outgoing as out_part
 use Rattle.homa_plain.specs.Choice.{Message, grants, due}
 use Rattle.homa_plain.specs.Cutoffs.{first_cutoffs, level_of, least_from, bounds, balanced}
+use Rattle.homa_plain.specs.Busy as out_busy
+use Rattle.homa_plain.specs.OutgoingChanges as out_changes
 
 abbrev host : ℕ → HostId
 host n = record { 0 = n }
@@ -65,18 +67,18 @@ as_many_gaps = refl
 
 -- a message that is sent in pieces of at most 4 bytes: 6 bytes need no grant, a grant adds 4, and byte 1 is asked for again
 abbrev half_sent : out_part.Outgoing
-half_sent = out_part.changed_by (out_part.opened 11 6) (out_part.Send 4 ∷ out_part.Grant 10 3 ∷ [])
+half_sent = out_changes.changed_by (out_part.opened 11 6) (out_changes.Send 4 ∷ out_changes.Grant 10 3 ∷ [])
 
 pub next_piece : out_part.next_range half_sent 4 ≡ Some (range 4 8)
 unfolding empty insert_all retain checked keys with_range without_range ranges
 next_piece = refl
 
-pub asked_again : out_part.next_range (out_part.resend half_sent 1 2 0).part 4 ≡ Some (range 1 2)
+pub asked_again : out_part.next_range (out_busy.resend half_sent 1 2 0).part 4 ≡ Some (range 1 2)
 unfolding empty insert_all retain checked len keys with_range without_range within ranges
 asked_again = refl
 
 -- bytes that wait already aren't queued again
-pub busy : (out_part.resend half_sent 5 9 0).answer ≡ out_part.Busy
+pub busy : (out_busy.resend half_sent 5 9 0).answer ≡ out_busy.Busy
 unfolding empty insert_all retain checked len keys with_range without_range within ranges
 busy = refl
 

@@ -8,9 +8,11 @@ use Rattle.homa_plain.specs.Cutoffs.{level_of, noted}
 use Rattle.homa_plain.specs.Settings.{usual}
 use Rattle.homa_plain.specs.Host.{tuned}
 use Rattle.homa_plain.specs.AtClient.{client_gets}
-use Rattle.homa_plain.specs.AtServer.{server_gets, server_acked}
+use Rattle.homa_plain.specs.AtServer.{server_gets}
+use Rattle.homa_plain.specs.Tombstones.{server_acked}
 use Rattle.homa_plain.specs.Timers.{client_deadline, server_deadline}
-use Rattle.homa_plain.specs.Steps.{asked, served, takes, pumped_once, pumps, start_fault, call_step, arrival_step, turn_step}
+use Rattle.homa_plain.specs.Steps.{asked, served, takes, start_fault, call_step, arrival_step, turn_step}
+use Rattle.homa_plain.specs.SentNext.{pumped_once, pumps}
 use Rattle.homa_plain.specs.World.{new_world, outcome}
 use Rattle.homa_plain.specs.Replay.{carried}
 use Rattle.homa_plain.specs.Quiet.{round, first_round}

@@ -8,12 +8,13 @@ use Rattle.homa_plain.specs.declared.entry.Why.TheVariants.{Forgotten}
 use Rattle.homa_plain.specs.Calls.{is_host}
 use Rattle.homa_plain.specs.Incoming.{Incoming, with_bytes, leaves_too_many_gaps, is_whole, message}
 use Rattle.homa_plain.specs.Incoming as incoming
-use Rattle.homa_plain.specs.Outgoing.{Answer, Busy, Queued, Resent, grant, resend, restart}
+use Rattle.homa_plain.specs.Busy.{Resent, resend, busy_for}
+use Rattle.homa_plain.specs.Outgoing.{grant, restart}
 use Rattle.homa_plain.specs.Entries.{PlainDone, PlainFail, PlainFullPages, PlainGaps}
 use Rattle.homa_plain.specs.Packets.{Packet, sender}
 use Rattle.homa_plain.specs.Rows.{ClientRow}
 use Rattle.homa_plain.specs.Host.{pages_for}
-use Rattle.homa_plain.specs.Rules.{Moment, Piece, Say, Tells, Posts, Did, leaves, keeps, says, opening, version_of}
+use Rattle.homa_plain.specs.Rules.{Moment, Piece, Tells, Posts, Did, leaves, keeps, says, opening, version_of}
 
 -- drops what an earlier incarnation of the server sent of the response, if the packet is of a later one
 -- A rule of this project: the paper's servers don't restart under a live call.
@@ -31,12 +32,6 @@ refreshed now body r = record r { heard = now; base = now; count = 0 }
 -- the row with what has arrived of the response
 abbrev pub with_part : ClientRow → Incoming → ClientRow
 with_part r part = record r { part = Some part }
-
--- BUSY, if a RESEND queued nothing
--- Source: SIGCOMM 2018, "Lost packets" (from memory).
-abbrev pub busy_for : Answer → List Say
-busy_for Busy = Posts body.Busy ∷ []
-busy_for Queued = []
 
 -- ---- pieces of the response
 

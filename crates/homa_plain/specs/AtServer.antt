@@ -4,16 +4,15 @@ use Rattle.homa_plain.specs.declared.id.CallId.{CallId}
 use Rattle.homa_plain.specs.declared.packet.Body.{Body}
 use Rattle.homa_plain.specs.declared.packet.Body.TheVariants as body
 use Rattle.homa_plain.specs.declared.settings.Settings.{Settings}
-use Rattle.homa_plain.specs.Settings.{span}
 use Rattle.homa_plain.specs.Incoming.{Incoming, with_bytes, leaves_too_many_gaps, is_whole, message}
 use Rattle.homa_plain.specs.Incoming as incoming
-use Rattle.homa_plain.specs.Outgoing.{Outgoing, Resent, grant, resend}
+use Rattle.homa_plain.specs.Outgoing.{Outgoing, grant}
+use Rattle.homa_plain.specs.Busy.{Resent, resend, busy_for}
 use Rattle.homa_plain.specs.Outgoing as outgoing
-use Rattle.homa_plain.specs.Entries.{PlainRun, PlainBury, PlainFullRows, PlainFullPages, PlainGaps}
+use Rattle.homa_plain.specs.Entries.{PlainRun, PlainFullRows, PlainFullPages, PlainGaps}
 use Rattle.homa_plain.specs.Packets.{Packet}
 use Rattle.homa_plain.specs.Rows.{ServerRow, State, Receiving, Held, Replying, Buried}
 use Rattle.homa_plain.specs.Host.{pages_for}
-use Rattle.homa_plain.specs.AtClient.{busy_for}
 use Rattle.homa_plain.specs.Rules.{Moment, Answer, Piece, Tells, Posts, Did, leaves, keeps, says, opening, version_of}
 
 -- the row in another state
@@ -27,12 +26,6 @@ replying s now response row d = record d {
   row = Some (with_state row (Replying response (outgoing.opened (length response) s.unsched) d.order now 0));
   order = d.order + 1;
 }
-
--- keeps of the call only that it ran, up to a tick: the tombstone
--- A rule of this project, so that no call runs twice; in SIGCOMM 2018, "At-least-once semantics",
--- some do (from memory).
-abbrev pub buried : Moment → CallId → ℕ → ServerRow → Did ServerRow
-buried m id until row = says m (Some (with_state row (Buried until))) (Tells (PlainBury m.host id until) ∷ [])
 
 -- ---- pieces of the request
 
@@ -137,16 +130,3 @@ row_gets s m id body payload answer row (Buried until) = buried_gets m body row
 unfoldable pub server_gets : Settings → Moment → Packet → Answer → Option ServerRow → Did ServerRow
 server_gets s m p answer None = unknown_gets s m p.id p.body p.payload answer
 server_gets s m p answer (Some row) = row_gets s m p.id p.body p.payload answer row row.state
-
--- the client has finished the call: if it ran and isn't buried, it is buried for a span
--- A rule of this project: for a span a late packet of the call may still arrive.
-abbrev pub state_acked : Settings → Moment → CallId → ServerRow → State → Did ServerRow
-state_acked s m id row (Receiving service part base count) = keeps m row
-state_acked s m id row (Held response release) = buried m id (m.now + span s) row
-state_acked s m id row (Replying response out order base count) = buried m id (m.now + span s) row
-state_acked s m id row (Buried until) = keeps m row
-
--- the client has finished the call
-unfoldable pub server_acked : Settings → Moment → CallId → Option ServerRow → Did ServerRow
-server_acked s m id None = leaves m None
-server_acked s m id (Some row) = state_acked s m id row row.state

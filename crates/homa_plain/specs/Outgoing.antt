@@ -1,6 +1,6 @@
 -- An outgoing message: which of its bytes wait to be sent, how far it is granted, and how far it was sent.
-use Rattle.std.specs.Prelude.{◌≡◌, ◌⊎◌, ◌<◌, ◌≤◌, true, false, ℕ, ◌+◌, ◌-◌, ◌==◌, ◌||◌, Bool, nat_lt, nat_le, min, max, if◌then◌else◌, Option, Some}
-use Rattle.std.specs.Prelude.{None, List, [], ◌∷◌, length}
+use Rattle.std.specs.Prelude.{◌≡◌, ◌⊎◌, ◌<◌, ◌≤◌, true, false, ℕ, ◌+◌, ◌-◌, Bool, nat_lt, min, max, if◌then◌else◌, Option, Some, None, List, []}
+use Rattle.std.specs.Prelude.{◌∷◌, length}
 use Rattle.plain_sets.specs.Maps.{len}
 use Rattle.plain_sets.specs.Ranges.{Range, range}
 use Rattle.plain_sets.specs.Numbers.{Numbers, with_range, without_range, within, set_of_range, has, IsBelow, ranges}
@@ -40,33 +40,6 @@ grant_up_to p end prio =
 abbrev pub grant : Outgoing → ℕ → ℕ → Outgoing
 grant p offset prio = grant_up_to p (min offset p.length) prio
 
--- the answer to a RESEND: the bytes were queued, or the sender is busy
-pub data Answer : Type 0 where
-  Busy : Answer
-  Queued : Answer
-
--- the answer to a RESEND, and the message after it
-pub record Resent : Type 0 where
-  pub answer : Answer
-  pub part : Outgoing
-
--- whether a RESEND of the bytes from a to b - 1 queues nothing:
--- there are none, all of them wait, or more than 63 ranges would wait
-abbrev pub is_busy : Outgoing → ℕ → ℕ → Bool
-is_busy p a b = nat_le b a || len (within p.waiting a b) == b - a || nat_lt 63 (length (ranges (with_range p.waiting a b)))
-
--- a RESEND of bytes below the message's end
-abbrev pub resend_up_to : Outgoing → ℕ → ℕ → ℕ → Resent
-resend_up_to p a b prio =
-    if is_busy p a b
-    then record { answer = Busy; part = p }
-    else record { answer = Queued; part = record p { waiting = with_range p.waiting a b; granted = max p.granted b; prio = prio } }
-
--- a RESEND of the bytes from a to b - 1 arrives, of which only those of the message count
--- Source: SIGCOMM 2018, "Lost packets" (from memory). The bound of 63 ranges is a rule of this project.
-abbrev pub resend : Outgoing → ℕ → ℕ → ℕ → Resent
-resend p a b prio = resend_up_to p a (min b p.length) prio
-
 -- whether bytes wait
 abbrev pub has_waiting : Outgoing → Bool
 has_waiting p = nat_lt 0 (len p.waiting)
@@ -94,25 +67,6 @@ pub record Next : Type 0 where
 -- A rule of this project.
 abbrev pub next : Outgoing → ℕ → Next
 next p seg = record { range = next_range p seg; part = sent p (next_range p seg) }
-
--- what can happen to an outgoing message
-pub data Change : Type 0 where
-  Grant : (offset prio : ℕ) → Change
-  Resend : (a b prio : ℕ) → Change
-  Restart : Change
-  Send : (seg : ℕ) → Change
-
--- the message after a change
-abbrev pub changed : Outgoing → Change → Outgoing
-changed p (Grant offset prio) = grant p offset prio
-changed p (Resend a b prio) = (resend p a b prio).part
-changed p Restart = restart p
-changed p (Send seg) = (next p seg).part
-
--- the message after changes, one after the other
-abbrev pub changed_by : Outgoing → List Change → Outgoing
-changed_by p [] = p
-changed_by p (c ∷ cs) = changed_by (changed p c) cs
 
 -- what holds of each outgoing message:
 -- nothing waits from the granted end on, and at most 64 ranges wait, also after any grant

@@ -1,5 +1,5 @@
 -- Which messages a host grants to, and what it sends of its own messages.
-use Rattle.std.specs.Prelude.{ℕ, ◌+◌, ◌-◌, ◌&&◌, ◌||◌, Bool, nat_lt, nat_le, if◌then◌else◌, Option, None, Some, List, [], ◌∷◌, ◌++◌, take, drop}
+use Rattle.std.specs.Prelude.{ℕ, ◌-◌, nat_lt, if◌then◌else◌, Option, None, Some, List, [], ◌∷◌, ◌++◌, take, drop}
 use Rattle.std.specs.List.{flat_map}
 use Rattle.plain_sets.specs.Maps.{entries}
 use Rattle.plain_sets.specs.Ranges.{Range}
@@ -8,11 +8,10 @@ use Rattle.homa_plain.specs.declared.packet.Cutoffs.{Cutoffs}
 use Rattle.homa_plain.specs.declared.packet.Body.{Body}
 use Rattle.homa_plain.specs.declared.packet.Body.TheVariants as body
 use Rattle.homa_plain.specs.declared.settings.Settings.{Settings}
-use Rattle.homa_plain.specs.Settings.{patience}
 use Rattle.homa_plain.specs.Choice.{Message, seen}
 use Rattle.homa_plain.specs.Cutoffs.{level_of}
 use Rattle.homa_plain.specs.Incoming.{Incoming, granted_to}
-use Rattle.homa_plain.specs.Outgoing.{Outgoing, left, has_waiting, next}
+use Rattle.homa_plain.specs.Outgoing.{Outgoing, next}
 use Rattle.homa_plain.specs.Rows.{ClientRow, ServerRow, State, Receiving, Replying}
 use Rattle.homa_plain.specs.Host.{Host}
 use Rattle.homa_plain.specs.Timers.{Place, OfClient, OfServer}
@@ -59,40 +58,6 @@ abbrev pub server_granted : ℕ → ℕ → ServerRow → ServerRow
 server_granted now offset row = record row { state = state_granted now offset row.state }
 
 -- ---- what may be sent
-
--- a request may be sent if bytes of it wait and it is new: its last byte was never sent, or the server was heard of
--- within its patience.
--- A rule of this project: a client stops sending to a server from which nothing comes.
-abbrev pub may_send_request : Settings → ℕ → ClientRow → Bool
-may_send_request s now r = has_waiting r.out && (nat_lt r.out.top r.out.length || nat_le now (r.heard + patience s))
-
--- an outgoing message that may be sent
-pub record Leaving : Type 0 where
-  pub place : Place
-  pub left : ℕ  -- how many bytes lie above all that were sent
-  pub order : ℕ
-
--- the message with the fewest bytes left is sent first, and the oldest of several with as many
--- Source: SIGCOMM 2018, "Basic sender behavior" (from memory).
--- That bytes which are sent again don't count is a rule of this project.
-abbrev pub leaving_key : Leaving → ℕ × ℕ
-leaving_key l = (l.left, l.order)
-
--- the request of a call, if it may be sent
-abbrev pub leaving_at_client : Settings → ℕ → CallId → ClientRow → List Leaving
-leaving_at_client s now id r = if may_send_request s now r then record { place = OfClient id; left = left r.out; order = r.order } ∷ [] else []
-
--- the response of a call, if bytes of it wait
-abbrev pub leaving_at_server : CallId → State → List Leaving
-leaving_at_server id (Replying response out order base count) =
-    if has_waiting out then record { place = OfServer id; left = left out; order = order } ∷ [] else []
-leaving_at_server id state = []
-
--- the outgoing messages of a host that may be sent
-abbrev pub departures : Settings → ℕ → Host → List Leaving
-departures s now h =
-    flat_map (λ (e : CallId × ClientRow). leaving_at_client s now e.0 e.1) (entries h.clients)
-    ++ flat_map (λ (e : CallId × ServerRow). leaving_at_server e.0 e.1.state) (entries h.servers)
 
 -- ---- a piece that is sent
 

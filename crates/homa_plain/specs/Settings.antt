@@ -1,5 +1,5 @@
 -- The settings of a run, and which are valid.
-use Rattle.std.specs.Prelude.{ℕ, ◌+◌, ◌-◌, ◌*◌, ◌≤◌, ◌==◌, nat_lt, Bool, ◌&&◌, ◌||◌, if◌then◌else◌, Option, None, Some, Result, Ok, Err, List, [], ◌∷◌}
+use Rattle.std.specs.Prelude.{ℕ, ◌+◌, ◌-◌, ◌*◌, ◌≤◌, ◌==◌, nat_lt, ◌||◌, if◌then◌else◌, Option, None, Some, Result, Ok, Err, List, [], ◌∷◌}
 use Rattle.homa_plain.specs.declared.settings.Settings.{Settings}
 use Rattle.homa_plain.specs.declared.settings.Limits.{Limits}
 use Rattle.homa_plain.specs.declared.settings.Name.{Name}
@@ -110,10 +110,6 @@ patience s = s.resend * (s.tries + 1)
 -- the accepted life: for how many ticks a packet may be taken; with version 2 the receiver itself refuses it later
 abbrev pub accepted_life : Settings → ℕ
 accepted_life s = if s.wire == 1 then s.life else s.life + 4 * s.skew
-
--- whether a packet that was sent at the first tick may not be delivered any more at the second: with version 1, after its life
-abbrev pub is_past_life : Settings → ℕ → ℕ → Bool
-is_past_life s sent now = s.wire == 1 && nat_lt (sent + s.life) now
 
 -- the band: by how many ticks two hosts' clocks may differ
 -- A rule of this project.

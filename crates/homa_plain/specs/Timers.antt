@@ -1,5 +1,5 @@
 -- When the timer of a row is due, and what the row does then.
-use Rattle.std.specs.Prelude.{ℕ, ◌+◌, ◌*◌, ◌&&◌, ◌||◌, Bool, false, nat_lt, is_none, if◌then◌else◌, Option, None, Some, List, [], ◌∷◌, ◌++◌}
+use Rattle.std.specs.Prelude.{ℕ, ◌+◌, ◌&&◌, ◌||◌, Bool, false, nat_lt, is_none, if◌then◌else◌, Option, None, Some, List, [], ◌∷◌, ◌++◌}
 use Rattle.std.specs.List.{flat_map}
 use Rattle.plain_sets.specs.Maps.{entries}
 use Rattle.plain_sets.specs.Ranges.{Range, range}
@@ -7,14 +7,15 @@ use Rattle.homa_plain.specs.declared.id.CallId.{CallId}
 use Rattle.homa_plain.specs.declared.packet.Body.TheVariants as body
 use Rattle.homa_plain.specs.declared.settings.Settings.{Settings}
 use Rattle.homa_plain.specs.declared.entry.Why.TheVariants.{Timeout}
-use Rattle.homa_plain.specs.Settings.{asking_level, span, patience}
+use Rattle.homa_plain.specs.Settings.{asking_level}
 use Rattle.homa_plain.specs.Incoming.{Incoming, first_gap}
-use Rattle.homa_plain.specs.Outgoing.{Outgoing, has_waiting}
+use Rattle.homa_plain.specs.Outgoing.{has_waiting}
 use Rattle.homa_plain.specs.Entries.{PlainFail, PlainDrop, PlainFree}
 use Rattle.homa_plain.specs.Rows.{ClientRow, ServerRow, State, Receiving, Held, Replying, Buried}
 use Rattle.homa_plain.specs.Host.{Host}
 use Rattle.homa_plain.specs.Rules.{Moment, Say, Tells, Posts, Did, leaves, says}
-use Rattle.homa_plain.specs.AtServer.{with_state, replying, buried}
+use Rattle.homa_plain.specs.AtServer.{with_state, replying}
+use Rattle.homa_plain.specs.Tombstones.{replying_acts}
 
 -- ---- deadlines
 
@@ -81,15 +82,6 @@ receiving_acts s m id row service part count =
     if nat_lt count s.tries
     then says m (Some (with_state row (Receiving service part m.now (count + 1)))) (resend_of s (first_gap part))
     else says m None (Tells (PlainDrop m.host id) ∷ [])
-
--- The server asks whether the response has arrived; after `tries` NEED_ACKs without an answer it buries the call.
--- A rule of this project: its last packet may be under way for a span, the client may be patient after that,
--- and then its request may be under way for a span; so the tombstone stays for all three.
-abbrev pub replying_acts : Settings → Moment → CallId → ServerRow → List ℕ → Outgoing → ℕ → ℕ → Did ServerRow
-replying_acts s m id row response out order count =
-    if nat_lt count s.tries
-    then says m (Some (with_state row (Replying response out order m.now (count + 1)))) (Posts body.NeedAck ∷ [])
-    else buried m id (m.now + 2 * span s + patience s) row
 
 -- what a row in this state does when it is due
 abbrev pub state_acts : Settings → Moment → CallId → ServerRow → State → Did ServerRow

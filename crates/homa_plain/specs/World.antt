@@ -9,13 +9,15 @@ use Rattle.homa_plain.specs.declared.event.Event.TheVariants as event
 use Rattle.homa_plain.specs.declared.fault.StartFault.{StartFault}
 use Rattle.homa_plain.specs.declared.fault.WorldFault.{WorldFault}
 use Rattle.homa_plain.specs.declared.fault.WorldFault.TheVariants.{NoSuchHost, NoSuchPacket, Late, Start, NoSpare, ClockEnd, Decodes, OutOfBand, Back}
-use Rattle.homa_plain.specs.Settings.{band, is_past_life}
+use Rattle.homa_plain.specs.Settings.{band}
+use Rattle.homa_plain.specs.OldPackets.{is_past_life}
 use Rattle.homa_plain.specs.Wire.{packet_in}
 use Rattle.homa_plain.specs.Entries.{PlainEntry, PlainDeliver, PlainClock, PlainRestart, PlainInject, PlainShift}
 use Rattle.homa_plain.specs.Packets.{Packet, receiver}
 use Rattle.homa_plain.specs.Host.{Host, new_host, Told, packets_in, entries_from}
 use Rattle.homa_plain.specs.Rules.{Answer}
-use Rattle.homa_plain.specs.Steps.{Work, start_fault, call_step, arrival_step, turn_step, has_run}
+use Rattle.homa_plain.specs.Work.{Work}
+use Rattle.homa_plain.specs.Steps.{start_fault, call_step, arrival_step, turn_step, has_run}
 
 -- a packet that was sent, with the world's tick at its sending
 pub record SentPacket : Type 0 where

@@ -1,8 +1,9 @@
 // Whether a packet is too old: with version 1 the world doesn't deliver it, with version 2 its receiver refuses it.
 ghost use Rattle.std.specs.Prelude.{◌≡◌, ◌≤◌};
 ghost use Rattle.homa_plain.specs.Packets.{Packet};
-ghost use Rattle.homa_plain.specs.Settings.{IsValid, is_past_life};
-ghost use Rattle.homa_plain.specs.Steps.{is_stale};
+ghost use Rattle.homa_plain.specs.Settings.{IsValid};
+ghost use Rattle.homa_plain.specs.OldPackets.{is_past_life};
+ghost use Rattle.homa_plain.specs.OldPackets.{is_stale};
 
 use crate::limits::LAST_HOST_TICK;
 use crate::settings::Settings;

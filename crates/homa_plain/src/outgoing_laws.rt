@@ -2,7 +2,9 @@
 ghost use Rattle.std.specs.Prelude.{◌≡◌, false, ◌⊎◌, ◌↔◌, ℕ, ◌<◌, ◌≤◌, ◌||◌, min, max, None, List, length, MatchOption, IfSome};
 ghost use Rattle.plain_sets.specs.Ranges.{is_between};
 ghost use Rattle.plain_sets.specs.Numbers.{has, with_range, without_range, ranges};
-ghost use Rattle.homa_plain.specs.Outgoing.{Outgoing, opened, grant, Busy, Queued, resend, has_waiting, next, Change, changed, changed_by, IsSound};
+ghost use Rattle.homa_plain.specs.Outgoing.{Outgoing, opened, grant, has_waiting, next, IsSound};
+ghost use Rattle.homa_plain.specs.Busy.{Busy, Queued, resend};
+ghost use Rattle.homa_plain.specs.OutgoingChanges.{Change, changed, changed_by};
 ghost use Rattle.homa_plain.specs.Outgoing.{IsFront, IsIdle, AllWait};
 
 /// What holds of each outgoing message after any changes: nothing waits above the granted end, and at most 64

@@ -2,7 +2,8 @@
 use Rattle.std.proofs.Common.{◌≡◌, ◌<◌, ◌≤◌, ◌^◌, ℕ, List, length, ltb, Option, Some, None, refl, ◌∙◌, arith, min}
 use Rattle.std.proofs.lemmas.Bool.{cond_both}
 use Rattle.plain_sets.specs.Ranges.{Range}
-use Rattle.homa_plain.specs.Outgoing.{Outgoing, opened, grant, resend, next, next_range, sent, is_busy, Resent, IsSound}
+use Rattle.homa_plain.specs.Outgoing.{Outgoing, opened, grant, next, next_range, sent, IsSound}
+use Rattle.homa_plain.specs.Busy.{resend, is_busy, Resent}
 use Rattle.homa_plain.proofs.OutgoingLaws.{sound-opened, sound-grant, sound-resend, sound-next}
 use Rattle.homa_server.specs.Held.{IsReplied, IsResponse}
 

@@ -15,7 +15,8 @@ use Rattle.homa_plain.specs.declared.packet.Role.TheVariants.{Client}
 use Rattle.homa_plain.specs.Packets.{Packet, packet_between, call_between, server_between}
 use Rattle.homa_plain.specs.Rows.{ServerRow}
 use Rattle.homa_plain.specs.Rules.{Moment, Answer, Piece, Did, Tells, says}
-use Rattle.homa_plain.specs.AtServer.{server_gets, server_acked, unknown_gets, opens, piece_of}
+use Rattle.homa_plain.specs.AtServer.{server_gets, unknown_gets, opens, piece_of}
+use Rattle.homa_plain.specs.Tombstones.{server_acked}
 use Rattle.msg_pool.specs.Pool.{Pool, free_pages}
 use Rattle.homa_in.specs.Part.{Part}
 use Rattle.host_places.specs.Placed.{Placed}

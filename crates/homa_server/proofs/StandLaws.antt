@@ -17,7 +17,7 @@ use Rattle.homa_in.specs.Pooled.{Moves, AreIn, IsInPool}
 use Rattle.homa_in.proofs.MoveLaws.{still}
 use Rattle.homa_server.specs.Held.{HeldServer, state_part, seen_state, seen_server}
 use Rattle.homa_server.specs.Answers.{acked_of}
-use Rattle.homa_plain.specs.AtServer.{server_acked, state_acked}
+use Rattle.homa_plain.specs.Tombstones.{server_acked, state_acked}
 use Rattle.homa_plain.specs.Rules.{Moment}
 use Rattle.homa_server.specs.Table.{Servers, ServerRows, ServerMoved, server_at, request_at, slot_at}
 use Rattle.homa_server.proofs.TableLaws.{server_moved, still_requests}

@@ -1,6 +1,5 @@
-// What a packet does to a row.
-// Rules: DATA and GRANT of a row, BUSY to a RESEND with nothing to send, UNKNOWN by a tombstone, and an ACK, which
-// leaves a tombstone.
+// What a packet does to a row, by the row's state.
+// Rules: DATA of a request, GRANT and RESEND of a response. BUSY is in `busy`, UNKNOWN in `unknown`, an ACK in `tombstones`.
 ghost use Rattle.std.specs.Prelude.{◌≡◌, ℕ, List, ◌+◌, ◌==◌, ◌&&◌, ◌||◌, not, ◌<◌, ◌≤◌, length, true, false, Some, None};
 ghost use Rattle.std.specs.Prelude.{IfOk, OnErr, if◌then◌else◌};
 ghost use Rattle.homa_plain.specs.declared.id.CallId.{CallId};
@@ -173,10 +172,7 @@ impl Row {
                 };
                 self.put(alloc, at, slot, piece, settings, lent)
             }
-            Body::Resend { .. } => {
-                self.forget_tries();
-                Ok(busy(slot))
-            }
+            Body::Resend { .. } => Ok(self.receiving_resend(slot)),
             Body::Busy => {
                 self.touch(at.now);
                 Ok(ServerDid::Touched(slot))
@@ -195,17 +191,6 @@ impl Row {
             unreachable!()
         };
         *base = now;
-        *count = 0;
-    }
-
-    // The client was heard of, but its request is no further.
-    fn forget_tries(&mut self)
-        requires { is_arriving self.old.state ≡ true }
-        ensures { IfArriving self.old.state (λ wanted part base count. self.new ≡ record self.old { state = Arriving wanted part base 0 }) }
-    {
-        let State::Receiving { count, .. } = &mut self.state else {
-            unreachable!()
-        };
         *count = 0;
     }
 

@@ -1,4 +1,5 @@
-//! RESEND after silence: which bytes of a request a row asks for again, and when it gives up.
+//! RESEND after silence: which bytes of a request a row asks for again, and when it gives up. `timers` says when it is due.
+//! `homa_client/src/resends` is the client's side.
 ghost use Rattle.std.specs.Prelude.{◌≡◌, ◌+◌, ◌<◌, ◌≤◌, true, Some};
 ghost use Rattle.homa_plain.specs.declared.id.CallId.{CallId};
 ghost use Rattle.homa_plain.specs.declared.settings.Settings.{Settings};

@@ -1,6 +1,5 @@
-// When a row acts by itself, and what it does then.
-// Rules: RESEND after silence up to `tries` times, the end of `hold`, NEED_ACK, and when a response and its tombstone
-// go.
+// When a row acts by itself: its deadline in each state, and which rule it follows then.
+// Rules: the end of `hold`. RESEND after silence is in `resends`, NEED_ACK and the end of a response in `tombstones`.
 ghost use Rattle.std.specs.Prelude.{◌≡◌, ℕ, ◌+◌, ◌<◌, ◌≤◌, length, true, Some, None};
 ghost use Rattle.homa_plain.specs.declared.id.CallId.{CallId};
 ghost use Rattle.homa_plain.specs.declared.id.HostId.{HostId};

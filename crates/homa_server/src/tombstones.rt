@@ -6,7 +6,7 @@ ghost use Rattle.homa_plain.specs.declared.id.HostId.{HostId};
 ghost use Rattle.homa_plain.specs.Settings.{IsValid};
 ghost use Rattle.homa_plain.specs.declared.settings.Settings.{Settings};
 ghost use Rattle.homa_plain.specs.Rules.{Moment as PlainMoment};
-ghost use Rattle.homa_plain.specs.AtServer.{state_acked};
+ghost use Rattle.homa_plain.specs.Tombstones.{state_acked};
 ghost use Rattle.msg_pool.specs.Pool.{Pool};
 ghost use Rattle.homa_server.specs.Held.{is_answering, state_part, seen_state, seen_server};
 ghost use Rattle.homa_in.specs.Pieces.{moment_with};

@@ -20,7 +20,9 @@ use Rattle.homa_plain.specs.Entries.{PlainEntry, PlainDeliver, PlainInject}
 use Rattle.homa_plain.specs.Wire.{packet_in}
 use Rattle.homa_plain.specs.Packets.{Packet, sender, receiver, datagram, wire_packet, packet_between}
 use Rattle.homa_plain.specs.Rules.{Answer}
-use Rattle.homa_plain.specs.Steps.{Work, arrival_step, is_stale}
+use Rattle.homa_plain.specs.Work.{Work}
+use Rattle.homa_plain.specs.Steps.{arrival_step}
+use Rattle.homa_plain.specs.OldPackets.{is_stale}
 use Rattle.homa_plain.specs.World.{World as PlainWorld, SentPacket, Refused, host_at, own_clock, is_late, delivered, arrives_at, outcome, stranger}
 use Rattle.host_view.specs.Seen.{Seen}
 use Rattle.host_view.specs.Done.{arriving}

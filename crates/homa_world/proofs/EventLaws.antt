@@ -15,7 +15,8 @@ use Rattle.plain_sets.specs.Maps.{len}
 use Rattle.homa_plain.specs.Calls.{is_host}
 use Rattle.homa_plain.proofs.CallOrder.{hosts_are}
 use Rattle.homa_plain.specs.Host.{Host}
-use Rattle.homa_plain.specs.Steps.{Work, has_run, turn_step, call_step, start_fault}
+use Rattle.homa_plain.specs.Work.{Work}
+use Rattle.homa_plain.specs.Steps.{has_run, turn_step, call_step, start_fault}
 use Rattle.homa_plain.specs.World.{World as PlainWorld, host_at, own_clock}
 use Rattle.host_view.specs.Seen.{Seen}
 use Rattle.homa_service.specs.Table.{place_of}

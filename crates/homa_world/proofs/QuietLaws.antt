@@ -4,7 +4,8 @@ use Rattle.std.specs.Prelude.{map, slice_get}
 use Rattle.homa_plain.specs.declared.id.HostId.{HostId}
 use Rattle.homa_plain.specs.declared.event.Event.{Event}
 use Rattle.homa_plain.specs.Rules.{Answer}
-use Rattle.homa_plain.specs.Steps.{Work, has_run}
+use Rattle.homa_plain.specs.Work.{Work}
+use Rattle.homa_plain.specs.Steps.{has_run}
 use Rattle.homa_plain.specs.World.{World as PlainWorld, Outcome, Done, outcome}
 use Rattle.host_view.specs.Seen.{Seen}
 use Rattle.world_packets.specs.declared.packets.Packets.{Packets}

@@ -17,8 +17,9 @@ use Rattle.homa_plain.specs.Outgoing.{has_waiting, left}
 use Rattle.homa_plain.specs.Rows.{ClientRow, ServerRow, State, Receiving, Held, Replying, Buried}
 use Rattle.homa_plain.specs.Host.{Host}
 use Rattle.homa_plain.specs.Timers.{Place, OfClient, OfServer, Timer, timer_key, timers, client_deadline, server_deadline}
-use Rattle.homa_plain.specs.Sending.{Arriving, arriving_at_client, arriving_at_server, arrivals, Leaving, may_send_request, leaving_at_client}
-use Rattle.homa_plain.specs.Sending.{leaving_at_server, departures}
+use Rattle.homa_plain.specs.Sending.{Arriving, arriving_at_client, arriving_at_server, arrivals}
+use Rattle.homa_plain.specs.SentNext.{Leaving, may_send_request, leaving_at_client}
+use Rattle.homa_plain.specs.SentNext.{leaving_at_server, departures}
 use Rattle.step_laws.specs.StepLaws.{client_order, server_order, response_order, request_order, reply_order, arriving_in, leaving_in, HasOwnOrders}
 use Rattle.step_laws.proofs.Places.{IsOne, one_timer, timers-keys, arrivals-keys}
 use Rattle.homa_timers.specs.Armed as armed

@@ -7,7 +7,8 @@ use Rattle.plain_sets.proofs.OrderFirst.{all_from}
 use Rattle.homa_plain.specs.declared.settings.Settings.{Settings}
 use Rattle.homa_plain.specs.Choice.{Message, new_end, grants_from, chosen, Granted, sender, choice_key}
 use Rattle.homa_plain.specs.Sending.{Arriving, arrivals}
-use Rattle.homa_plain.specs.Steps.{Work, grants_at, all_granted, gives_grants}
+use Rattle.homa_plain.specs.Work.{Work}
+use Rattle.homa_plain.specs.Steps.{grants_at, all_granted, gives_grants}
 use Rattle.homa_plain.proofs.ChoiceLaws.{chosen-contains, differ-chosen}
 use Rattle.step_laws.specs.StepLaws.{LeavesOthers}
 use Rattle.step_laws.proofs.Others.{grants_at-others, none-others}

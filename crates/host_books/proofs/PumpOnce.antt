@@ -18,9 +18,12 @@ use Rattle.homa_plain.specs.Outgoing.{Outgoing, has_waiting, left, next_range, I
 use Rattle.homa_plain.specs.Rows.{ClientRow, ServerRow, State, Receiving, Held, Replying, Buried}
 use Rattle.homa_plain.specs.Host.{Host, packets_in, peer_cutoffs}
 use Rattle.homa_plain.specs.Timers.{Place, OfClient, OfServer}
-use Rattle.homa_plain.specs.Sending.{Leaving, leaving_key, may_send_request, leaving_at_server, departures, response_content, Content}
-use Rattle.homa_plain.specs.Steps.{Work, first_leaves, leaves_from, client_leaves, server_leaves, state_leaves, if_affordable, request_leaves}
-use Rattle.homa_plain.specs.Steps.{response_leaves, pumped_once, pumps, pump, most_packets}
+use Rattle.homa_plain.specs.SentNext.{Leaving, leaving_key, may_send_request, leaving_at_server, departures}
+use Rattle.homa_plain.specs.Sending.{response_content, Content}
+use Rattle.homa_plain.specs.Work.{Work}
+use Rattle.homa_plain.specs.SentNext.{first_leaves, leaves_from, client_leaves, server_leaves, state_leaves, request_leaves}
+use Rattle.homa_plain.specs.Credit.{if_affordable}
+use Rattle.homa_plain.specs.SentNext.{response_leaves, pumped_once, pumps, pump, most_packets}
 use Rattle.homa_plain.proofs.OutgoingLaws.{front-next_range, waiting-idle}
 use Rattle.step_laws.specs.StepLaws.{HasOwnOrders}
 use Rattle.homa_pacer.specs.Pace as pace

@@ -7,7 +7,8 @@ use Rattle.homa_plain.specs.Incoming.{Incoming}
 use Rattle.homa_plain.specs.Outgoing.{Outgoing, has_waiting, left}
 use Rattle.homa_plain.specs.Rows.{ClientRow, ServerRow, State, Receiving, Held, Replying, Buried}
 use Rattle.homa_plain.specs.Timers.{Place, OfClient, OfServer, timer, client_deadline, server_deadline}
-use Rattle.homa_plain.specs.Sending.{arriving_at_client, arriving_at_server, Leaving}
+use Rattle.homa_plain.specs.Sending.{arriving_at_client, arriving_at_server}
+use Rattle.homa_plain.specs.SentNext.{Leaving}
 use Rattle.step_laws.specs.StepLaws.{HasOwnOrders}
 use Rattle.homa_timers.specs.Armed as armed
 use Rattle.homa_grants.specs.Entries as entry

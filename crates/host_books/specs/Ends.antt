@@ -3,7 +3,8 @@ use Rattle.std.specs.Prelude.{ℕ, nat_lt, if◌then◌else◌, List, [], ◌∷
 use Rattle.homa_plain.specs.declared.settings.Settings.{Settings}
 use Rattle.homa_plain.specs.Choice.{new_end}
 use Rattle.homa_plain.specs.Sending.{Arriving}
-use Rattle.homa_plain.specs.Steps.{Work, grants_at}
+use Rattle.homa_plain.specs.Work.{Work}
+use Rattle.homa_plain.specs.Steps.{grants_at}
 
 -- a chosen message is granted to, where its new end exceeds its granted end
 abbrev pub grant_to : Settings → Arriving → ℕ → Work → Work

@@ -15,10 +15,13 @@ use Rattle.homa_plain.specs.Outgoing.{next_range}
 use Rattle.homa_plain.specs.Rows.{ClientRow, ServerRow, State, Receiving, Held, Replying, Buried, set_row}
 use Rattle.homa_plain.specs.Host.{Host, peer_cutoffs, packets_in}
 use Rattle.homa_plain.specs.Timers.{Place, OfClient, OfServer}
-use Rattle.homa_plain.specs.Sending.{Arriving, arrivals, Leaving, leaving_key, departures, client_granted, server_granted, state_granted, while_new}
+use Rattle.homa_plain.specs.Sending.{Arriving, arrivals, client_granted, server_granted, state_granted, while_new}
+use Rattle.homa_plain.specs.SentNext.{Leaving, leaving_key, departures}
 use Rattle.homa_plain.specs.Sending.{client_sends, state_sends, response_content}
-use Rattle.homa_plain.specs.Steps.{Work, now_of, client_is_granted, server_is_granted, grants_at, all_granted, gives_grants, request_leaves}
-use Rattle.homa_plain.specs.Steps.{response_leaves, client_leaves, state_leaves, server_leaves, leaves_from, first_leaves, pumped_once, pumps, pump}
+use Rattle.homa_plain.specs.Work.{Work, now_of}
+use Rattle.homa_plain.specs.Steps.{client_is_granted, server_is_granted, grants_at, all_granted, gives_grants}
+use Rattle.homa_plain.specs.SentNext.{request_leaves}
+use Rattle.homa_plain.specs.SentNext.{response_leaves, client_leaves, state_leaves, server_leaves, leaves_from, first_leaves, pumped_once, pumps, pump}
 use Rattle.homa_plain.specs.Steps.{ended}
 use Rattle.homa_plain.proofs.CallOrder.{calls_are}
 use Rattle.step_laws.proofs.Others.{get-set_row, set_row-others}

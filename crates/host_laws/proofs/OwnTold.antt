@@ -13,24 +13,34 @@ use Rattle.homa_plain.specs.declared.packet.Body.TheVariants as body
 use Rattle.homa_plain.specs.declared.settings.Settings.{Settings}
 use Rattle.homa_plain.specs.Incoming.{Incoming, with_bytes, leaves_too_many_gaps, is_whole, message, first_gap}
 use Rattle.homa_plain.specs.Incoming as incoming
-use Rattle.homa_plain.specs.Outgoing.{Outgoing, Answer as OutAnswer, Busy, Queued, resend, next_range}
+use Rattle.homa_plain.specs.Outgoing.{Outgoing, next_range}
+use Rattle.homa_plain.specs.Busy.{Answer as OutAnswer, Busy, Queued, resend}
 use Rattle.homa_plain.specs.Packets.{Packet, sender}
 use Rattle.homa_plain.specs.Rows.{ClientRow, ServerRow, State, Receiving, Held, Replying, Buried, set_row}
 use Rattle.homa_plain.specs.Host.{Host, Tuning, Tuned, tuned, is_balance_due, counted, pages_for, Told, Sends, finished_at, peer_cutoffs, packets_in}
 use Rattle.homa_plain.specs.Rules.{Moment, Answer, Piece, Say, Tells, Posts, Did, leaves, keeps, opening, version_of}
-use Rattle.homa_plain.specs.AtClient.{busy_for, renewed, refreshed, answered, response_piece, unasked, client_gets}
+use Rattle.homa_plain.specs.Busy.{busy_for}
+use Rattle.homa_plain.specs.AtClient.{renewed, refreshed, answered, response_piece, unasked, client_gets}
 use Rattle.homa_plain.specs.AtClient as client
 use Rattle.homa_plain.specs.AtServer.{piece_comes, runs, opens, piece_of, unknown_gets, receiving_gets, held_gets, replying_gets, buried_gets}
-use Rattle.homa_plain.specs.AtServer.{row_gets, server_gets, state_acked, server_acked}
+use Rattle.homa_plain.specs.AtServer.{row_gets, server_gets}
+use Rattle.homa_plain.specs.Tombstones.{state_acked, server_acked}
 use Rattle.homa_plain.specs.Timers.{Place, OfClient, OfServer, resend_of, wanted, client_acts, server_acts, state_acts}
 use Rattle.homa_plain.specs.Choice.{Granted, grants, least}
-use Rattle.homa_plain.specs.Sending.{Arriving, arrivals, Leaving, leaving_key, departures, response_content}
+use Rattle.homa_plain.specs.Sending.{Arriving, arrivals, response_content}
+use Rattle.homa_plain.specs.SentNext.{Leaving, leaving_key, departures}
 use Rattle.step_laws.proofs.StepEnd.{left}
 use Rattle.plain_sets.specs.Ranges.{Range}
-use Rattle.homa_plain.specs.Steps.{Work, now_of, tells, notes, tells_cutoffs, acknowledged, finishes, said, asked, served, moment, is_newer}
-use Rattle.homa_plain.specs.Steps.{hears_cutoffs, comes_to_row, client_acted, server_acted, acts_at, client_is_granted, server_is_granted, grants_at}
-use Rattle.homa_plain.specs.Steps.{all_granted, gives_grants, request_leaves, response_leaves, client_leaves, state_leaves, server_leaves}
-use Rattle.homa_plain.specs.Steps.{leaves_from, first_leaves, pumped_once, pumps, ended}
+use Rattle.homa_plain.specs.Work.{Work, now_of, tells, said}
+use Rattle.homa_plain.specs.CutoffsPackets.{notes, tells_cutoffs, is_newer}
+use Rattle.homa_plain.specs.FiveAcks.{acknowledged, finishes}
+use Rattle.homa_plain.specs.Steps.{asked, served, moment}
+use Rattle.homa_plain.specs.CutoffsPackets.{hears_cutoffs}
+use Rattle.homa_plain.specs.Steps.{comes_to_row, client_acted, server_acted, acts_at, client_is_granted, server_is_granted, grants_at}
+use Rattle.homa_plain.specs.Steps.{all_granted, gives_grants}
+use Rattle.homa_plain.specs.SentNext.{request_leaves, response_leaves, client_leaves, state_leaves, server_leaves}
+use Rattle.homa_plain.specs.SentNext.{leaves_from, first_leaves, pumped_once, pumps}
+use Rattle.homa_plain.specs.Steps.{ended}
 use Rattle.step_laws.proofs.Places.{all-append}
 use Rattle.host_laws.specs.Bytes.{IsOwnEntry, IsOwnTold}
 

@@ -20,10 +20,16 @@ use Rattle.homa_plain.specs.Packets.{Packet, sender, acks}
 use Rattle.homa_plain.specs.Rows.{ClientRow, ServerRow, set_row}
 use Rattle.homa_plain.specs.Host.{Host, Told, Says, Sends, finished_at}
 use Rattle.homa_plain.specs.Rules.{Answer, Did}
-use Rattle.homa_plain.specs.AtServer.{server_acked}
+use Rattle.homa_plain.specs.Tombstones.{server_acked}
 use Rattle.homa_plain.specs.Timers.{Place, OfClient, OfServer, Timer, timer_key, timers, client_acts, server_acts}
-use Rattle.homa_plain.specs.Steps.{Work, now_of, begun, refilled, tells, notes, tells_cutoffs, acknowledged, finishes, said, asked, served, moment}
-use Rattle.homa_plain.specs.Steps.{is_newer, hears_cutoffs, comes_to_row, acked, takes, is_stale, comes, client_acted, server_acted, acts_at, all_act}
+use Rattle.homa_plain.specs.Work.{Work, now_of, begun, tells, said}
+use Rattle.homa_plain.specs.Credit.{refilled}
+use Rattle.homa_plain.specs.CutoffsPackets.{notes, tells_cutoffs}
+use Rattle.homa_plain.specs.FiveAcks.{acknowledged, finishes}
+use Rattle.homa_plain.specs.Steps.{asked, served, moment}
+use Rattle.homa_plain.specs.CutoffsPackets.{is_newer, hears_cutoffs}
+use Rattle.homa_plain.specs.Steps.{comes_to_row, acked, takes, comes, client_acted, server_acted, acts_at, all_act}
+use Rattle.homa_plain.specs.OldPackets.{is_stale}
 use Rattle.homa_plain.specs.Steps.{acts, next_id, starts, call_step, arrival_step, turn_step, new_call}
 use Rattle.homa_plain.specs.Host.{peer_cutoffs}
 use Rattle.host_view.specs.declared.outbox.SentFrame.{SentFrame}

@@ -15,7 +15,9 @@ use Rattle.std.proofs.lemmas.Bool.{eq-eqb, ne_eqb}
 use Rattle.homa_plain.specs.Packets.{Packet}
 use Rattle.homa_plain.specs.Host.{Told, Says, Sends, packets_in, finished_at, with_finished, Tuning, Tuned, tuned, counted, rebalanced, is_balance_due}
 use Rattle.homa_plain.specs.Sending.{Content}
-use Rattle.homa_plain.specs.Steps.{Work, tells, packet_from, posts, notes, tells_cutoffs, acknowledged}
+use Rattle.homa_plain.specs.Work.{Work, tells, packet_from, posts}
+use Rattle.homa_plain.specs.CutoffsPackets.{notes, tells_cutoffs}
+use Rattle.homa_plain.specs.FiveAcks.{acknowledged}
 use Rattle.step_laws.proofs.ToldBy.{packets_in-append}
 use Rattle.step_laws.proofs.Places.{all-append}
 use Rattle.host_view.specs.declared.mark.Mark.TheVariants.{Sent, Balanced}

@@ -20,8 +20,15 @@ use Rattle.homa_plain.specs.Rows.{ClientRow, ServerRow, RowsOf, set_row}
 use Rattle.homa_plain.specs.Rules.{Say, Tells, Posts, Did}
 use Rattle.homa_plain.specs.Host.{Host, PeerCutoffs, peer_cutoffs, finished_at, with_finished, Sends}
 use Rattle.homa_plain.specs.Sending.{Content, level_at, request_content, response_content, client_sends, state_sends}
-use Rattle.homa_plain.specs.Steps.{Work, tells, notes, tells_cutoffs, finishes, is_newer, hears_cutoffs, said, asked, served, request_leaves}
-use Rattle.homa_plain.specs.Steps.{response_leaves, oldest, packet_from, spent, now_of}
+use Rattle.homa_plain.specs.Work.{Work, tells, said}
+use Rattle.homa_plain.specs.CutoffsPackets.{notes, tells_cutoffs, is_newer, hears_cutoffs}
+use Rattle.homa_plain.specs.FiveAcks.{finishes}
+use Rattle.homa_plain.specs.Steps.{asked, served}
+use Rattle.homa_plain.specs.SentNext.{request_leaves}
+use Rattle.homa_plain.specs.SentNext.{response_leaves}
+use Rattle.homa_plain.specs.FiveAcks.{oldest}
+use Rattle.homa_plain.specs.Work.{packet_from, now_of}
+use Rattle.homa_plain.specs.Credit.{spent}
 use Rattle.host_view.specs.declared.mark.Mark.{Mark}
 use Rattle.host_view.specs.declared.mark.Mark.TheVariants.{Sent}
 use Rattle.host_view.specs.declared.outbox.SentFrame.{SentFrame}

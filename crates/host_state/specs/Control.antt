@@ -11,7 +11,7 @@ use Rattle.homa_plain.specs.Sending.{Content}
 use Rattle.homa_plain.specs.Settings.{IsValid}
 use Rattle.homa_plain.specs.Wire.{IsCall}
 use Rattle.homa_plain.specs.Host.{Tuning, PeerCutoffs, packets_in}
-use Rattle.homa_plain.specs.Steps.{Work}
+use Rattle.homa_plain.specs.Work.{Work}
 use Rattle.host_view.specs.declared.mark.Mark.{Mark}
 use Rattle.host_view.specs.declared.outbox.SentFrame.{SentFrame}
 use Rattle.host_view.specs.Frames.{frames_of, IsFormed}

@@ -1,7 +1,8 @@
 //! CUTOFFS packets: who is told the cutoffs of this host, and which cutoffs of a peer it keeps.
 ghost use Rattle.std.specs.Prelude.{◌≡◌, ◌+◌, ◌<◌, ◌≤◌, ◌^◌, ◌++◌, ◌∷◌, [], Some, IfSome, List, length};
 ghost use Rattle.homa_plain.specs.Host.{is_balance_due, rebalanced};
-ghost use Rattle.homa_plain.specs.Steps.{Work, notes, tells_cutoffs, is_newer, hears_cutoffs};
+ghost use Rattle.homa_plain.specs.Work.{Work};
+ghost use Rattle.homa_plain.specs.CutoffsPackets.{notes, tells_cutoffs, is_newer, hears_cutoffs};
 ghost use Rattle.host_view.specs.declared.mark.Mark.TheVariants.{Balanced};
 ghost use Rattle.host_view.specs.declared.outbox.SentFrame.{SentFrame};
 ghost use Rattle.host_state.specs.Control.{IsAt};

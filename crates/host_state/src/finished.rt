@@ -1,7 +1,8 @@
 // The calls that are done, of which a server isn't told yet.
 // Rule: an ACK tells a server of five finished calls together.
 ghost use Rattle.std.specs.Prelude.{◌≡◌, ◌+◌, ◌<◌, ◌≤◌, length, drop, true};
-ghost use Rattle.homa_plain.specs.Steps.{Work, finishes};
+ghost use Rattle.homa_plain.specs.Work.{Work};
+ghost use Rattle.homa_plain.specs.FiveAcks.{finishes};
 ghost use Rattle.host_state.specs.Control.{IsAt};
 
 use crate::control::Control;

@@ -9,7 +9,8 @@ use Rattle.homa_plain.specs.Host.{Host}
 use Rattle.homa_plain.specs.Packets.{Packet}
 use Rattle.homa_plain.specs.World.{new_hosts}
 use Rattle.homa_plain.specs.Rules.{Answer}
-use Rattle.homa_plain.specs.Steps.{Work, arrival_step}
+use Rattle.homa_plain.specs.Work.{Work}
+use Rattle.homa_plain.specs.Steps.{arrival_step}
 use Rattle.host_view.specs.declared.outbox.SentFrame.{SentFrame}
 use Rattle.host_view.specs.Seen.{Seen}
 use Rattle.host_view.specs.Marks.{has_ran, IsAllowed}

@@ -19,7 +19,7 @@ use Rattle.homa_plain.specs.Timers.{OfClient}
 use Rattle.homa_plain.specs.Settings.{patience}
 use Rattle.homa_plain.specs.Rows.{ClientRow, ServerRow}
 use Rattle.homa_plain.specs.Host.{Host}
-use Rattle.homa_plain.specs.Sending.{Leaving, leaving_key, may_send_request, leaving_at_client, leaving_at_server, departures}
+use Rattle.homa_plain.specs.SentNext.{Leaving, leaving_key, may_send_request, leaving_at_client, leaving_at_server, departures}
 use Rattle.step_laws.specs.StepLaws.{HasOwnOrders}
 use Rattle.step_laws.proofs.Places.{departures-keys}
 use Rattle.homa_pacer.specs.Pace.{Ready, ready_key}

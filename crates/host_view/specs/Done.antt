@@ -7,7 +7,7 @@ use Rattle.homa_plain.specs.declared.packet.Packet.{Packet as WirePacket}
 use Rattle.homa_plain.specs.Wire.{packet_in}
 use Rattle.homa_plain.specs.Packets.{Packet, packet_between}
 use Rattle.homa_plain.specs.Host.{packets_in, entries_from}
-use Rattle.homa_plain.specs.Steps.{Work}
+use Rattle.homa_plain.specs.Work.{Work}
 use Rattle.host_view.specs.declared.mark.Mark.TheVariants.{Sent}
 use Rattle.host_view.specs.declared.outbox.SentFrame.{SentFrame}
 use Rattle.host_view.specs.Frames.{frames_of, IsFormed, packet_of}

@@ -7,7 +7,8 @@ use Rattle.homa_plain.specs.declared.settings.Settings.{Settings}
 use Rattle.homa_plain.specs.Rows.{ClientRow, ServerRow, RowsOf}
 use Rattle.homa_plain.specs.Host.{Host}
 use Rattle.homa_plain.specs.Timers.{Place, OfClient, OfServer, Timer, timer, client_deadline, server_deadline}
-use Rattle.homa_plain.specs.Sending.{Arriving, arriving_at_client, arriving_at_server, Leaving}
+use Rattle.homa_plain.specs.Sending.{Arriving, arriving_at_client, arriving_at_server}
+use Rattle.homa_plain.specs.SentNext.{Leaving}
 use Rattle.step_laws.specs.StepLaws.{is_at_client, is_at_server}
 use Rattle.homa_timers.specs.Armed as armed
 use Rattle.homa_grants.specs.Entries as entry

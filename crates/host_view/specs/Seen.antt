@@ -9,7 +9,8 @@ use Rattle.homa_plain.specs.Outgoing.{has_waiting, left}
 use Rattle.homa_plain.specs.Rows.{ClientRow, ServerRow, State, Replying, RowsOf}
 use Rattle.homa_plain.specs.Host.{Host}
 use Rattle.homa_plain.specs.Timers.{Place, OfClient, OfServer, Timer, timers}
-use Rattle.homa_plain.specs.Sending.{Leaving, Arriving, arrivals, departures}
+use Rattle.homa_plain.specs.SentNext.{Leaving, departures}
+use Rattle.homa_plain.specs.Sending.{Arriving, arrivals}
 use Rattle.host_view.specs.declared.mark.Mark.{Mark}
 use Rattle.homa_timers.specs.Armed as armed
 use Rattle.homa_grants.specs.Entries as entry

@@ -8,7 +8,8 @@ use Rattle.homa_plain.specs.declared.settings.Settings.{Settings}
 use Rattle.homa_plain.specs.Host.{Host, packets_in, entries_from}
 use Rattle.homa_plain.specs.Packets.{packet_between}
 use Rattle.homa_plain.specs.Rules.{Answer}
-use Rattle.homa_plain.specs.Steps.{Work, arrival_step}
+use Rattle.homa_plain.specs.Work.{Work}
+use Rattle.homa_plain.specs.Steps.{arrival_step}
 use Rattle.homa_plain.specs.Wire.{packet_in}
 use Rattle.host_view.specs.Frames.{frames_of, IsFormed}
 use Rattle.driven_host.specs.Driven.{Driven, IsStill}

@@ -5,7 +5,8 @@ use Rattle.homa_plain.specs.declared.id.CallId.{CallId}
 use Rattle.homa_plain.specs.declared.id.HostId.{HostId}
 use Rattle.homa_plain.specs.declared.settings.Settings.{Settings}
 use Rattle.homa_plain.specs.Rules.{Answer}
-use Rattle.homa_plain.specs.Steps.{Work, arrival_step}
+use Rattle.homa_plain.specs.Work.{Work}
+use Rattle.homa_plain.specs.Steps.{arrival_step}
 use Rattle.host_view.specs.declared.mark.Mark.{Mark}
 use Rattle.host_view.specs.Done.{arriving}
 use Rattle.host_view.specs.Marks.{IsAllowed}

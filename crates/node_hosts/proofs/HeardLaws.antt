@@ -13,7 +13,8 @@ use Rattle.homa_plain.specs.Wire.{packet_in}
 use Rattle.homa_plain.specs.Packets.{Packet, sender, receiver, packet_between}
 use Rattle.homa_plain.specs.Host.{Host, Told, entries_from}
 use Rattle.homa_plain.specs.Rules.{Answer}
-use Rattle.homa_plain.specs.Steps.{Work, has_run, arrival_step}
+use Rattle.homa_plain.specs.Work.{Work}
+use Rattle.homa_plain.specs.Steps.{has_run, arrival_step}
 use Rattle.homa_plain.specs.World.{World, Outcome, Done, host_at, own_clock, next_answer, answers_left, stepped, arrives_at}
 use Rattle.host_view.specs.Seen.{Seen}
 use Rattle.host_view.specs.Marks.{has_ran}

@@ -9,7 +9,7 @@ use Rattle.homa_plain.specs.declared.settings.Settings.{Settings}
 use Rattle.homa_plain.specs.Entries.{PlainEntry, PlainSend}
 use Rattle.homa_plain.specs.Packets.{Packet, sender, receiver, datagram}
 use Rattle.homa_plain.specs.Host.{Told, Says, Sends, packets_in, entries_from}
-use Rattle.homa_plain.specs.Steps.{Work}
+use Rattle.homa_plain.specs.Work.{Work}
 use Rattle.homa_plain.specs.World.{World, SentPacket, stamped, host_at, own_clock}
 use Rattle.host_view.specs.Seen.{Seen}
 use Rattle.host_view.specs.Frames.{frames_of}

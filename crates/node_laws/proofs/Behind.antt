@@ -17,7 +17,8 @@ use Rattle.homa_plain.specs.Host.{Host, packets_in, entries_from}
 use Rattle.homa_plain.specs.Packets.{Packet, receiver, receiver_of, call_between, server_between}
 use Rattle.homa_plain.specs.Rules.{Answer}
 use Rattle.homa_plain.specs.Settings.{IsValid}
-use Rattle.homa_plain.specs.Steps.{Work, has_run}
+use Rattle.homa_plain.specs.Work.{Work}
+use Rattle.homa_plain.specs.Steps.{has_run}
 use Rattle.homa_plain.specs.World.{World, After, Done, host_at, own_clock, next_answer, answers_left, stamped, stepped, last_tick}
 use Rattle.step_laws.proofs.Places.{all-append}
 use Rattle.step_moves.proofs.Hosts.{there, elsewhere, within, some_is, number_of, apart}

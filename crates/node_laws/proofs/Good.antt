@@ -29,8 +29,14 @@ use Rattle.homa_plain.specs.Host.{Told, Says, packets_in}
 use Rattle.homa_plain.specs.Rules.{Say, Tells, Posts, Did}
 use Rattle.homa_plain.specs.Sending.{Content, granted_part, state_granted, client_granted, server_granted, client_sends, state_sends, request_content}
 use Rattle.homa_plain.specs.Sending.{response_content}
-use Rattle.homa_plain.specs.Steps.{Work, now_of, tells, packet_from, bare, posts, said, notes, tells_cutoffs, acknowledged, finishes, asked, served}
-use Rattle.homa_plain.specs.Steps.{client_is_granted, server_is_granted, spent, oldest, request_leaves, response_leaves}
+use Rattle.homa_plain.specs.Work.{Work, now_of, tells, packet_from, bare, posts, said}
+use Rattle.homa_plain.specs.CutoffsPackets.{notes, tells_cutoffs}
+use Rattle.homa_plain.specs.FiveAcks.{acknowledged, finishes}
+use Rattle.homa_plain.specs.Steps.{asked, served}
+use Rattle.homa_plain.specs.Steps.{client_is_granted, server_is_granted}
+use Rattle.homa_plain.specs.Credit.{spent}
+use Rattle.homa_plain.specs.FiveAcks.{oldest}
+use Rattle.homa_plain.specs.SentNext.{request_leaves, response_leaves}
 use Rattle.homa_plain.proofs.CallOrder.{calls_are}
 use Rattle.homa_plain.proofs.CutoffLaws.{length-balanced, high-balanced}
 use Rattle.step_laws.proofs.Others.{get-set_row, set_row-others}

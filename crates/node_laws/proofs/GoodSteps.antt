@@ -30,10 +30,15 @@ use Rattle.homa_plain.specs.Packets.{Packet, sender, acks, acks_in, calls_of}
 use Rattle.homa_plain.specs.Rows.{ServerRow, Receiving, RowsOf, set_row}
 use Rattle.homa_plain.specs.Host.{Host, new_host, peer_cutoffs, pages_for}
 use Rattle.homa_plain.specs.Rules.{Moment, Answer, Piece, Tells, Did, leaves, says, opening}
-use Rattle.homa_plain.specs.AtServer.{piece_comes, opens, piece_of, unknown_gets, row_gets, server_gets, state_acked, server_acked}
+use Rattle.homa_plain.specs.AtServer.{piece_comes, opens, piece_of, unknown_gets, row_gets, server_gets}
+use Rattle.homa_plain.specs.Tombstones.{state_acked, server_acked}
 use Rattle.homa_plain.specs.Timers.{Place, OfClient, OfServer, server_acts}
 use Rattle.homa_plain.specs.Sending.{Arriving, arrivals}
-use Rattle.homa_plain.specs.Steps.{Work, now_of, begun, is_newer, hears_cutoffs, comes_to_row, acked, takes, is_stale, comes, moment, refilled, client_acted}
+use Rattle.homa_plain.specs.Work.{Work, now_of, begun}
+use Rattle.homa_plain.specs.CutoffsPackets.{is_newer, hears_cutoffs}
+use Rattle.homa_plain.specs.Steps.{comes_to_row, acked, takes, comes, moment, client_acted}
+use Rattle.homa_plain.specs.OldPackets.{is_stale}
+use Rattle.homa_plain.specs.Credit.{refilled}
 use Rattle.homa_plain.specs.Steps.{server_acted, acts_at, acts, grants_at, gives_grants, client_is_granted, server_is_granted, ended, next_id, new_call}
 use Rattle.homa_plain.specs.Steps.{starts, start_fault, call_step, arrival_step, turn_step}
 use Rattle.homa_plain.proofs.ChoiceLaws.{grant-chosen, few-chosen}

@@ -19,8 +19,12 @@ use Rattle.homa_plain.specs.Host.{Host, new_host, Told, Says, Sends, Tuned, tune
 use Rattle.homa_plain.specs.Rules.{Answer, Say, Tells, Posts, Did}
 use Rattle.homa_plain.specs.Timers.{Place, OfClient, OfServer, client_acts, server_acts}
 use Rattle.homa_plain.specs.Sending.{client_granted, client_sends}
-use Rattle.homa_plain.specs.Steps.{Work, begun, now_of, moment, said, asked, served, hears_cutoffs, comes_to_row, takes, is_stale, comes, client_acted}
-use Rattle.homa_plain.specs.Steps.{server_acted, acts_at, acts, ended, next_id, new_call, starts, refilled, call_step, arrival_step, turn_step}
+use Rattle.homa_plain.specs.Work.{Work, begun, now_of, said}
+use Rattle.homa_plain.specs.Steps.{moment, asked, served, comes_to_row, takes, comes, client_acted}
+use Rattle.homa_plain.specs.CutoffsPackets.{hears_cutoffs}
+use Rattle.homa_plain.specs.OldPackets.{is_stale}
+use Rattle.homa_plain.specs.Steps.{server_acted, acts_at, acts, ended, next_id, new_call, starts, call_step, arrival_step, turn_step}
+use Rattle.homa_plain.specs.Credit.{refilled}
 use Rattle.step_moves.specs.Worlds.{HasOwnName}
 use Rattle.step_moves.proofs.Inner.{inner-append, AllInner}
 use Rattle.step_laws.proofs.Own.{IsOwn, AllOwn, gets_own, acked_own, server_acts_own, gets_quiet, client_acts_quiet}

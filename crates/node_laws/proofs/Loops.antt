@@ -15,7 +15,8 @@ use Rattle.homa_plain.specs.Entries.{PlainEntry, PlainSettings, PlainClock, Plai
 use Rattle.homa_plain.specs.Packets.{Packet}
 use Rattle.homa_plain.specs.Host.{Host, new_host, entries_from}
 use Rattle.homa_plain.specs.Rules.{Answer}
-use Rattle.homa_plain.specs.Steps.{Work, start_fault, call_step, arrival_step, turn_step}
+use Rattle.homa_plain.specs.Work.{Work}
+use Rattle.homa_plain.specs.Steps.{start_fault, call_step, arrival_step, turn_step}
 use Rattle.homa_plain.specs.World.{World, After, Refused, Done, outcome, host_at, own_clock, next_answer, stepped, started, calls_from, turns, arrives_at}
 use Rattle.homa_plain.specs.World.{new_world, last_tick, new_hosts}
 use Rattle.homa_plain.specs.Replay.{Happening, carried}

@@ -7,7 +7,8 @@ use Rattle.plain_sets.specs.Ranges.{Range, IsFirstIn, NoneIn}
 use Rattle.homa_plain.specs.declared.id.HostId.{HostId}
 use Rattle.homa_plain.specs.Incoming.{Incoming, with_bytes, granted_to, leaves_too_many_gaps, first_gap, is_missing}
 use Rattle.homa_plain.specs.Incoming as incoming
-use Rattle.homa_plain.specs.Outgoing.{Outgoing, Resent, grant, resend, restart, next, next_range, sent, is_busy, Busy, Queued}
+use Rattle.homa_plain.specs.Outgoing.{Outgoing, grant, restart, next, next_range, sent}
+use Rattle.homa_plain.specs.Busy.{Resent, resend, is_busy, Busy, Queued}
 use Rattle.homa_plain.specs.Outgoing as outgoing
 use Rattle.homa_plain.proofs.OutgoingLaws.{sound-opened, sound-restart, sound-grant, sound-resend, sound-next}
 use Rattle.homa_plain.proofs.ArrivalLaws.{sound-with_bytes, sound-granted_to, first-first_gap}

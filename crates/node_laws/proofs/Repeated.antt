@@ -18,7 +18,8 @@ use Rattle.homa_plain.specs.Wire.{packet_in}
 use Rattle.homa_plain.specs.Entries.{PlainEntry, PlainSettings, PlainCall, PlainRecv, PlainDeliver, PlainInject}
 use Rattle.homa_plain.specs.Packets.{Packet, sender, wire_packet, packet_between}
 use Rattle.homa_plain.specs.Host.{Host, Told, Says, Sends, packets_in, entries_from}
-use Rattle.homa_plain.specs.Steps.{Work, start_fault, next_id, call_step, arrival_step, turn_step}
+use Rattle.homa_plain.specs.Work.{Work}
+use Rattle.homa_plain.specs.Steps.{start_fault, next_id, call_step, arrival_step, turn_step}
 use Rattle.homa_plain.specs.World.{World, SentPacket, After, Refused, Done, outcome, host_at, own_clock, next_answer, answers_left, stamped, started}
 use Rattle.homa_plain.specs.World.{calls_from, turns, arrives_at}
 use Rattle.homa_plain.specs.Replay.{Happening, bare}

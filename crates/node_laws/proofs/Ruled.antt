@@ -15,23 +15,27 @@ use Rattle.homa_plain.specs.Settings.{IsValid}
 use Rattle.homa_plain.specs.Wire.{FitsKind}
 use Rattle.homa_plain.specs.Incoming.{Incoming, with_bytes, leaves_too_many_gaps, is_whole, message, first_gap}
 use Rattle.homa_plain.specs.Incoming as incoming
-use Rattle.homa_plain.specs.Outgoing.{Outgoing, Resent, Busy, Queued, grant, resend, restart}
-use Rattle.homa_plain.specs.Outgoing as outgoing
+use Rattle.homa_plain.specs.Outgoing.{Outgoing, grant, restart}
+use Rattle.homa_plain.specs.Busy.{Resent, Busy, Queued, resend}
 use Rattle.homa_plain.specs.Entries.{PlainGaps, PlainRun}
 use Rattle.homa_plain.specs.Packets.{Packet, sender}
 use Rattle.homa_plain.specs.Rows.{ClientRow, ServerRow, State, Receiving, Held, Replying, Buried}
 use Rattle.homa_plain.specs.Host.{pages_for}
 use Rattle.homa_plain.specs.Rules.{Moment, Answer, Piece, Say, Tells, Did, leaves, keeps, says, opening, version_of}
-use Rattle.homa_plain.specs.AtClient.{renewed, refreshed, with_part, busy_for, piece_added, piece_comes, response_piece, started_over, answered, unasked}
+use Rattle.homa_plain.specs.AtClient.{renewed, refreshed, with_part, piece_added, piece_comes, response_piece, started_over, answered, unasked}
+use Rattle.homa_plain.specs.Busy.{busy_for}
 use Rattle.homa_plain.specs.AtClient.{client_gets}
-use Rattle.homa_plain.specs.AtServer.{with_state, replying, buried, runs, opens, piece_of, unknown_gets, receiving_gets, held_gets, touched, response_resent}
-use Rattle.homa_plain.specs.AtServer.{replying_gets, buried_gets, row_gets, server_gets, state_acked, server_acked}
+use Rattle.homa_plain.specs.AtServer.{with_state, replying, runs, opens, piece_of, unknown_gets, receiving_gets, held_gets, touched, response_resent}
+use Rattle.homa_plain.specs.Tombstones.{buried}
+use Rattle.homa_plain.specs.AtServer.{replying_gets, buried_gets, row_gets, server_gets}
+use Rattle.homa_plain.specs.Tombstones.{state_acked, server_acked}
 use Rattle.homa_plain.specs.AtServer as at_server
 use Rattle.homa_plain.specs.Timers.{resend_of, wanted, client_acts, state_acts, server_acts}
 use Rattle.world_laws.specs.Sound.{IsMessage, IsPart, IsArriving, IsClientRow, IsState}
 use Rattle.node_runs.specs.Replayed.{IsAnswer}
 use Rattle.node_laws.proofs.Told.{AllSaid, IsMoment, few_pages, served_small, soon_until, late_until}
 use Rattle.node_laws.proofs.Parts.{part_granted, part_resent, part_restarted, part_opened, arriving_opened, arriving_taken, IsGap, gap_is}
+use Rattle.homa_plain.specs.Busy as busy
 
 -- a rule's row is such, a message that it opened is no longer than any may be, and what it says can be sent
 pub record IsGood {R : Type 0} (P : R → Type 0) (role : Role) (did : Did R) : Type 0 where
@@ -49,7 +53,7 @@ module _ {R : Type 0} (P : R → Type 0) (role : Role) (m : Moment) where
   says_good : (o : Option R) (said : List Say) → IfSome o P → AllSaid role said → IsGood P role (says m o said)
   says_good o said k fits = record { row = k; opened = tt; said = fits }
 
-busy_good : (role : Role) (a : outgoing.Answer) → AllSaid role (busy_for a)
+busy_good : (role : Role) (a : busy.Answer) → AllSaid role (busy_for a)
 busy_good role Busy = ((refl, refl), tt)
 busy_good role Queued = tt
 

@@ -10,7 +10,8 @@ use Rattle.homa_plain.specs.Settings.{IsValid}
 use Rattle.homa_plain.specs.Entries.{PlainEntry, PlainCall, PlainRecv}
 use Rattle.homa_plain.specs.Packets.{Packet}
 use Rattle.homa_plain.specs.Host.{Host, Told, packets_in, entries_from}
-use Rattle.homa_plain.specs.Steps.{Work, next_id, call_step, arrival_step, turn_step}
+use Rattle.homa_plain.specs.Work.{Work}
+use Rattle.homa_plain.specs.Steps.{next_id, call_step, arrival_step, turn_step}
 use Rattle.homa_plain.specs.Wire.{packet_in}
 use Rattle.homa_plain.specs.World.{World, After, Refused, Done, outcome, host_at, own_clock, next_answer, stamped}
 use Rattle.step_moves.specs.Worlds.{HasOwnName}

@@ -17,9 +17,11 @@ use Rattle.homa_plain.specs.Wire.{calls_at}
 use Rattle.homa_plain.specs.Text.{line_text}
 use Rattle.homa_plain.specs.Host.{tuned}
 use Rattle.homa_plain.specs.AtClient.{client_gets}
-use Rattle.homa_plain.specs.AtServer.{server_gets, server_acked}
+use Rattle.homa_plain.specs.AtServer.{server_gets}
+use Rattle.homa_plain.specs.Tombstones.{server_acked}
 use Rattle.homa_plain.specs.Timers.{client_deadline, server_deadline}
-use Rattle.homa_plain.specs.Steps.{asked, served, takes, pumped_once, pumps, start_fault, call_step, arrival_step, turn_step}
+use Rattle.homa_plain.specs.Steps.{asked, served, takes, start_fault, call_step, arrival_step, turn_step}
+use Rattle.homa_plain.specs.SentNext.{pumped_once, pumps}
 use Rattle.homa_plain.specs.World.{new_world, outcome}
 use Rattle.node_runs.specs.Script.{words_in, calls_from, opening_from, opening}
 use Rattle.homa_plain.specs.Script.{bytes_of_word, event_text, settings_text}

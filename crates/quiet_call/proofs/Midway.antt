@@ -15,7 +15,8 @@ use Rattle.homa_plain.specs.Wire.{packet_in}
 use Rattle.homa_plain.specs.Packets.{Packet, packet_between}
 use Rattle.homa_plain.specs.Host.{Host, Told, Says, Sends, packets_in, entries_from}
 use Rattle.homa_plain.specs.Rules.{Answer}
-use Rattle.homa_plain.specs.Steps.{Work, arrival_step}
+use Rattle.homa_plain.specs.Work.{Work}
+use Rattle.homa_plain.specs.Steps.{arrival_step}
 use Rattle.homa_plain.specs.World.{World, SentPacket, After, Done, outcome, stamped, answers_left, next_answer}
 use Rattle.homa_plain.specs.Quiet.{has_done}
 use Rattle.step_laws.proofs.Places.{all-append}

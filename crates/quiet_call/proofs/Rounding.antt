@@ -12,7 +12,8 @@ use Rattle.homa_plain.specs.declared.packet.Role.TheVariants.{Client, Server}
 use Rattle.homa_plain.specs.declared.settings.Settings.{Settings}
 use Rattle.homa_plain.specs.declared.event.Event.TheVariants as event
 use Rattle.homa_plain.specs.Host.{Host}
-use Rattle.homa_plain.specs.Steps.{Work, arrival_step, turn_step}
+use Rattle.homa_plain.specs.Work.{Work}
+use Rattle.homa_plain.specs.Steps.{arrival_step, turn_step}
 use Rattle.homa_plain.specs.World.{World, SentPacket}
 use Rattle.homa_plain.specs.Replay.{bare, carried, ticks}
 use Rattle.homa_plain.specs.Quiet.{Round, has_done, deliveries, round}

@@ -5,7 +5,8 @@ use Rattle.homa_plain.specs.declared.event.Event.TheVariants as event
 use Rattle.homa_plain.specs.Host.{new_host, Host, packets_in, entries_from}
 use Rattle.homa_plain.specs.Rules.{Answer}
 use Rattle.homa_plain.specs.Script.{counting}
-use Rattle.homa_plain.specs.Steps.{Work, call_step, start_fault}
+use Rattle.homa_plain.specs.Work.{Work}
+use Rattle.homa_plain.specs.Steps.{call_step, start_fault}
 use Rattle.homa_plain.specs.World.{World, new_world, outcome, started, Done, After, stamped, answers_left}
 use Rattle.homa_plain.specs.Replay.{carried, after_event}
 use Rattle.homa_plain.specs.Quiet.{round, first_round, carried_round}

@@ -7,7 +7,8 @@ use Rattle.plain_sets.proofs.MapMembers.{same_some}
 use Rattle.homa_plain.specs.declared.settings.Settings.{Settings}
 use Rattle.homa_plain.specs.Entries.{PlainClock}
 use Rattle.homa_plain.specs.Host.{packets_in, entries_from}
-use Rattle.homa_plain.specs.Steps.{Work, turn_step}
+use Rattle.homa_plain.specs.Work.{Work}
+use Rattle.homa_plain.specs.Steps.{turn_step}
 use Rattle.homa_plain.specs.World.{World, SentPacket, stamped, last_tick}
 use Rattle.homa_plain.specs.Replay.{Run, carried, ticks, after_event}
 use Rattle.homa_plain.specs.Quiet.{has_done}

@@ -15,7 +15,10 @@ use Rattle.homa_plain.specs.Rows.{ServerRow, State, Receiving, Held, Replying, B
 use Rattle.homa_plain.specs.Host.{Host, Told, Says}
 use Rattle.homa_plain.specs.Rules.{Moment, Answer}
 use Rattle.homa_plain.specs.AtServer.{unknown_gets, row_gets, server_gets}
-use Rattle.homa_plain.specs.Steps.{Work, begun, moment, said, comes_to_row, acked, takes, is_stale, comes, ended, arrival_step, has_run, hears_cutoffs}
+use Rattle.homa_plain.specs.Work.{Work, begun, said}
+use Rattle.homa_plain.specs.Steps.{moment, comes_to_row, acked, takes, comes, ended, arrival_step, has_run}
+use Rattle.homa_plain.specs.OldPackets.{is_stale}
+use Rattle.homa_plain.specs.CutoffsPackets.{hears_cutoffs}
 use Rattle.homa_plain.specs.World.{SentPacket}
 use Rattle.step_laws.specs.StepLaws.{run_count}
 use Rattle.step_laws.proofs.ToldBy.{run_count-append, Calm, asks, said-runs, served-carried}

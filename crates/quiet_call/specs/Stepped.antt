@@ -7,7 +7,7 @@ use Rattle.homa_plain.specs.Packets.{Packet}
 use Rattle.homa_plain.specs.Host.{packets_in, entries_from}
 use Rattle.homa_plain.specs.Rules.{Answer}
 use Rattle.homa_plain.specs.Script.{counting}
-use Rattle.homa_plain.specs.Steps.{Work}
+use Rattle.homa_plain.specs.Work.{Work}
 use Rattle.homa_plain.specs.World.{World, SentPacket}
 use Rattle.homa_plain.specs.Quiet.{Round, has_done, round}
 use Rattle.host_view.specs.declared.outbox.SentFrame.{SentFrame}

@@ -8,7 +8,7 @@ use Rattle.homa_plain.specs.declared.settings.Settings.{Settings}
 use Rattle.homa_plain.specs.Packets.{Packet}
 use Rattle.homa_plain.specs.Host.{Host}
 use Rattle.homa_plain.specs.Rules.{Answer}
-use Rattle.homa_plain.specs.Steps.{is_stale}
+use Rattle.homa_plain.specs.OldPackets.{is_stale}
 use Rattle.homa_plain.specs.World.{World, SentPacket}
 use Rattle.homa_plain.specs.Script.{counting}
 use Rattle.homa_plain.specs.Quiet.{Round, round}

@@ -12,7 +12,9 @@ use Rattle.homa_plain.specs.Rows.{Replying}
 use Rattle.std.proofs.lemmas.List.{append-nil}
 use Rattle.homa_plain.specs.Rules.{Answer}
 use Rattle.homa_plain.specs.Host.{Host, Told, pages_for}
-use Rattle.homa_plain.specs.Steps.{Work, is_stale, comes, begun, ended, arrival_step}
+use Rattle.homa_plain.specs.Work.{Work, begun}
+use Rattle.homa_plain.specs.OldPackets.{is_stale}
+use Rattle.homa_plain.specs.Steps.{comes, ended, arrival_step}
 use Rattle.quiet_laws.specs.Flows.{other}
 use Rattle.quiet_laws.specs.Hosts.{client_id, server_id, at_tick, client_host, server_host, asking, ours, HasFront, AreAside}
 use Rattle.quiet_laws.proofs.Outs.{out_at, granted_at}

@@ -7,7 +7,8 @@ use Rattle.homa_plain.specs.declared.packet.Body.TheVariants as body
 use Rattle.homa_plain.specs.declared.settings.Settings.{Settings}
 use Rattle.homa_plain.specs.Host.{Host, Tuning, Tuned, tuned, counted, rebalanced, is_balance_due, Told, Says, Sends}
 use Rattle.homa_plain.specs.Entries.{PlainBalance}
-use Rattle.homa_plain.specs.Steps.{Work, notes, tells_cutoffs, posts}
+use Rattle.homa_plain.specs.Work.{Work, posts}
+use Rattle.homa_plain.specs.CutoffsPackets.{notes, tells_cutoffs}
 use Rattle.quiet_laws.specs.Hosts.{the_call, server_id, AreAside}
 
 -- only the host's tuning changes, and little is told

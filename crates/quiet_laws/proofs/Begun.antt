@@ -9,7 +9,8 @@ use Rattle.homa_plain.specs.declared.fault.StartFault.TheVariants.{Empty, TooLon
 use Rattle.homa_plain.specs.declared.packet.Role.TheVariants.{Client}
 use Rattle.homa_plain.specs.Outgoing as outgoing
 use Rattle.homa_plain.specs.Host.{Host, new_host}
-use Rattle.homa_plain.specs.Steps.{start_fault, call_step, starts, begun}
+use Rattle.homa_plain.specs.Steps.{start_fault, call_step, starts}
+use Rattle.homa_plain.specs.Work.{begun}
 use Rattle.quiet_laws.specs.Hosts.{asking, client_id, server_id, Bits, client_host, server_host}
 use Rattle.quiet_laws.proofs.Comes.{Never}
 use Rattle.quiet_laws.proofs.Stands.{Times, SendsRequest, GetsRequest, SenderEnded}

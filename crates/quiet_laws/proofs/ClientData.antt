@@ -18,7 +18,10 @@ use Rattle.homa_plain.specs.Host.{Host, Told, pages_for}
 use Rattle.homa_plain.specs.Rules.{Answer, Moment, Did, keeps, says, version_of, opening, Tells}
 use Rattle.homa_plain.specs.AtClient.{client_gets, piece_comes, piece_added, with_part}
 use Rattle.homa_plain.specs.AtServer.{piece_of}
-use Rattle.homa_plain.specs.Steps.{Work, begun, comes, takes, is_stale, asked, moment, notes, tells_cutoffs, tells}
+use Rattle.homa_plain.specs.Work.{Work, begun, tells}
+use Rattle.homa_plain.specs.Steps.{comes, takes, asked, moment}
+use Rattle.homa_plain.specs.OldPackets.{is_stale}
+use Rattle.homa_plain.specs.CutoffsPackets.{notes, tells_cutoffs}
 use Rattle.quiet_laws.specs.Hosts.{one_row, the_call, server_id, client_id, Bits, client_host, asking, ours, at_tick, HasFront, AreAside}
 use Rattle.quiet_laws.proofs.Fronts.{front_more, front_gaps, front_whole}
 use Rattle.quiet_laws.proofs.Comes.{fresh_taken, SeenSoFar, Never, Once}

@@ -17,7 +17,10 @@ use Rattle.homa_plain.specs.Rules.{Answer}
 use Rattle.homa_plain.specs.AtClient.{client_gets}
 use Rattle.homa_plain.specs.AtServer.{server_gets}
 use Rattle.homa_plain.specs.Entries.{PlainStale}
-use Rattle.homa_plain.specs.Steps.{Work, now_of, tells, begun, comes, takes, is_stale, asked, served, moment, is_newer, hears_cutoffs}
+use Rattle.homa_plain.specs.Work.{Work, now_of, tells, begun}
+use Rattle.homa_plain.specs.Steps.{comes, takes, asked, served, moment}
+use Rattle.homa_plain.specs.OldPackets.{is_stale}
+use Rattle.homa_plain.specs.CutoffsPackets.{is_newer, hears_cutoffs}
 use Rattle.quiet_laws.specs.Hosts.{the_call, server_id, client_id, Bits, server_host, client_host, asking, ours, at_tick}
 
 -- a packet that isn't too old is taken

@@ -8,7 +8,8 @@ use Rattle.homa_plain.specs.declared.settings.Settings.{Settings}
 use Rattle.homa_plain.specs.Packets.{Packet}
 use Rattle.homa_plain.specs.Host.{Host, Told, Says, Sends, packets_in}
 use Rattle.homa_plain.specs.Rules.{Answer}
-use Rattle.homa_plain.specs.Steps.{Work, comes, begun, ended, arrival_step}
+use Rattle.homa_plain.specs.Work.{Work, begun}
+use Rattle.homa_plain.specs.Steps.{comes, ended, arrival_step}
 use Rattle.homa_plain.specs.World.{World, SentPacket, stamped}
 use Rattle.quiet_laws.specs.Flows.{other, flows}
 use Rattle.quiet_laws.specs.Hosts.{AreOurs, AreAside}

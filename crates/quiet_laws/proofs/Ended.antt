@@ -15,8 +15,10 @@ use Rattle.homa_plain.specs.Packets.{Packet}
 use Rattle.homa_plain.specs.Host.{Host, Told, Sends, packets_in}
 use Rattle.homa_plain.specs.Choice.{least}
 use Rattle.homa_plain.specs.Timers.{OfClient}
-use Rattle.homa_plain.specs.Sending.{leaving_key}
-use Rattle.homa_plain.specs.Steps.{Work, first_leaves, pumps, pumped_once, pump, gives_grants, ended}
+use Rattle.homa_plain.specs.SentNext.{leaving_key}
+use Rattle.homa_plain.specs.Work.{Work}
+use Rattle.homa_plain.specs.SentNext.{first_leaves, pumps, pumped_once, pump}
+use Rattle.homa_plain.specs.Steps.{gives_grants, ended}
 use Rattle.quiet_laws.specs.Hosts.{the_call, Bits, client_host, server_host, asking, HasFront, AreOurs}
 use Rattle.quiet_laws.proofs.Outs.{out_at, waits_at}
 use Rattle.quiet_laws.proofs.Fronts.{front_len, front_granted}

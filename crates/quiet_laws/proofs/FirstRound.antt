@@ -10,7 +10,8 @@ use Rattle.homa_plain.specs.Host.{new_host, Host, Told, Says, Sends, packets_in,
 use Rattle.homa_plain.specs.Packets.{Packet}
 use Rattle.homa_plain.specs.Rules.{Answer}
 use Rattle.homa_plain.specs.Script.{counting}
-use Rattle.homa_plain.specs.Steps.{Work, call_step, starts, begun}
+use Rattle.homa_plain.specs.Work.{Work, begun}
+use Rattle.homa_plain.specs.Steps.{call_step, starts}
 use Rattle.homa_plain.specs.World.{World, new_world, outcome, started, Done, After, stamped, answers_left}
 use Rattle.homa_plain.specs.Replay.{Run, carried, after_event}
 use Rattle.homa_plain.specs.Quiet.{Round, round, first_round, carried_round, has_done}

@@ -15,7 +15,9 @@ use Rattle.homa_plain.specs.Entries.{PlainEntry, PlainDeliver}
 use Rattle.homa_plain.specs.Packets.{Packet}
 use Rattle.homa_plain.specs.Host.{Host, Told, Sends, packets_in, entries_from}
 use Rattle.homa_plain.specs.Rules.{Answer}
-use Rattle.homa_plain.specs.Steps.{Work, has_run, is_stale, arrival_step}
+use Rattle.homa_plain.specs.Work.{Work}
+use Rattle.homa_plain.specs.Steps.{has_run, arrival_step}
+use Rattle.homa_plain.specs.OldPackets.{is_stale}
 use Rattle.homa_plain.specs.World.{World, SentPacket, Outcome, Done, Refused, outcome, stamped, answers_left, next_answer}
 use Rattle.homa_plain.specs.Quiet.{has_done}
 use Rattle.quiet_laws.specs.Ends.{IsCalm}

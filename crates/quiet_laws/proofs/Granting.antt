@@ -16,7 +16,8 @@ use Rattle.homa_plain.specs.Host.{Told, Sends}
 use Rattle.homa_plain.specs.Timers.{OfClient, OfServer}
 use Rattle.homa_plain.specs.Choice as choice
 use Rattle.homa_plain.specs.Sending.{Arriving}
-use Rattle.homa_plain.specs.Steps.{Work, gives_grants, all_granted, packet_from, bare}
+use Rattle.homa_plain.specs.Work.{Work, packet_from, bare}
+use Rattle.homa_plain.specs.Steps.{gives_grants, all_granted}
 use Rattle.quiet_laws.specs.Hosts.{the_call, server_id, Bits, server_host, client_host, asking}
 
 take-one : {X : Type 0} (k : ℕ) (x : X) → 1 ≤ k → take k (x ∷ []) ≡ x ∷ []

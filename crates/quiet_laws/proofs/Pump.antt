@@ -7,7 +7,8 @@ use Rattle.homa_plain.specs.declared.packet.Role.{Role}
 use Rattle.homa_plain.specs.declared.settings.Settings.{Settings}
 use Rattle.homa_plain.specs.Packets.{Packet}
 use Rattle.homa_plain.specs.Host.{Told, Sends}
-use Rattle.homa_plain.specs.Steps.{Work, pumped_once, pumps}
+use Rattle.homa_plain.specs.Work.{Work}
+use Rattle.homa_plain.specs.SentNext.{pumped_once, pumps}
 use Rattle.quiet_laws.specs.Flows.{flows}
 use Rattle.quiet_laws.specs.Hosts.{AreOurs}
 use Rattle.quiet_laws.proofs.Outs.{end_at}

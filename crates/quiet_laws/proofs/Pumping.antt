@@ -16,8 +16,11 @@ use Rattle.homa_plain.specs.Outgoing.{next}
 use Rattle.homa_plain.specs.Rows.{ClientRow}
 use Rattle.homa_plain.specs.Host.{Told, Sends, peer_cutoffs}
 use Rattle.homa_plain.specs.Timers.{OfClient}
-use Rattle.homa_plain.specs.Sending.{Leaving, leaving_key, slice, request_content}
-use Rattle.homa_plain.specs.Steps.{Work, first_leaves, if_affordable, request_leaves, pumped_once, packet_from}
+use Rattle.homa_plain.specs.SentNext.{Leaving, leaving_key}
+use Rattle.homa_plain.specs.Sending.{slice, request_content}
+use Rattle.homa_plain.specs.Work.{Work, packet_from}
+use Rattle.homa_plain.specs.SentNext.{first_leaves, request_leaves, pumped_once}
+use Rattle.homa_plain.specs.Credit.{if_affordable}
 use Rattle.quiet_laws.specs.Flows.{flows}
 use Rattle.quiet_laws.specs.Hosts.{the_call, server_id, Bits, client_host, asking}
 use Rattle.quiet_laws.proofs.Pump.{Pumps}

@@ -14,8 +14,11 @@ use Rattle.homa_plain.specs.Outgoing.{Outgoing}
 use Rattle.homa_plain.specs.Rows.{ServerRow, Replying}
 use Rattle.homa_plain.specs.Host.{Told, Sends, peer_cutoffs}
 use Rattle.homa_plain.specs.Timers.{OfServer}
-use Rattle.homa_plain.specs.Sending.{Leaving, leaving_key, response_content}
-use Rattle.homa_plain.specs.Steps.{Work, first_leaves, if_affordable, response_leaves, pumped_once, packet_from}
+use Rattle.homa_plain.specs.SentNext.{Leaving, leaving_key}
+use Rattle.homa_plain.specs.Sending.{response_content}
+use Rattle.homa_plain.specs.Work.{Work, packet_from}
+use Rattle.homa_plain.specs.SentNext.{first_leaves, response_leaves, pumped_once}
+use Rattle.homa_plain.specs.Credit.{if_affordable}
 use Rattle.quiet_laws.specs.Flows.{flows}
 use Rattle.quiet_laws.specs.Hosts.{the_call, server_id, client_id, Bits, server_host}
 use Rattle.quiet_laws.proofs.Pump.{Pumps}

@@ -16,7 +16,10 @@ use Rattle.homa_plain.specs.Rows.{ServerRow, Receiving, Held, Replying, set_row}
 use Rattle.homa_plain.specs.Host.{Host, Told, Says, pages_for}
 use Rattle.homa_plain.specs.Rules.{Answer, Moment, Did, leaves, says, version_of, opening, Tells}
 use Rattle.homa_plain.specs.AtServer.{server_gets, piece_comes, piece_added, with_state, runs, replying, piece_of}
-use Rattle.homa_plain.specs.Steps.{Work, begun, comes, takes, is_stale, served, moment, notes, tells_cutoffs, said, tells}
+use Rattle.homa_plain.specs.Work.{Work, begun, said, tells}
+use Rattle.homa_plain.specs.Steps.{comes, takes, served, moment}
+use Rattle.homa_plain.specs.OldPackets.{is_stale}
+use Rattle.homa_plain.specs.CutoffsPackets.{notes, tells_cutoffs}
 use Rattle.quiet_laws.specs.Hosts.{rows_of, one_row, the_call, server_id, client_id, Bits, server_host, ours, at_tick, HasFront, AreAside}
 use Rattle.quiet_laws.proofs.Fronts.{front_more, front_gaps, front_whole}
 use Rattle.quiet_laws.proofs.Comes.{fresh_taken}

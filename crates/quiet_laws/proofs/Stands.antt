@@ -7,7 +7,7 @@ use Rattle.homa_plain.specs.Incoming.{Incoming}
 use Rattle.homa_plain.specs.Packets.{Packet}
 use Rattle.homa_plain.specs.Rows.{ServerRow, Receiving, Replying}
 use Rattle.homa_plain.specs.Host.{Host, Sends, packets_in}
-use Rattle.homa_plain.specs.Steps.{Work}
+use Rattle.homa_plain.specs.Work.{Work}
 use Rattle.quiet_laws.specs.Flows.{flows}
 use Rattle.quiet_laws.specs.Hosts.{Bits, client_host, server_host, asking, HasFront, AreOurs}
 use Rattle.quiet_laws.proofs.Outs.{out_at}

@@ -14,7 +14,9 @@ use Rattle.homa_plain.specs.Incoming as incoming
 use Rattle.homa_plain.specs.Packets.{Packet}
 use Rattle.homa_plain.specs.Rules.{Answer}
 use Rattle.homa_plain.specs.Host.{Host, Told, Says, Sends, packets_in, entries_from, pages_for}
-use Rattle.homa_plain.specs.Steps.{Work, is_stale, comes, begun}
+use Rattle.homa_plain.specs.Work.{Work, begun}
+use Rattle.homa_plain.specs.OldPackets.{is_stale}
+use Rattle.homa_plain.specs.Steps.{comes}
 use Rattle.quiet_laws.specs.Flows.{other, ahead, flows}
 use Rattle.quiet_laws.specs.Hosts.{the_call, client_id, server_id, server_host, HasFront, AreAside, IsCutoffs}
 use Rattle.quiet_laws.proofs.Fronts.{front_opened}

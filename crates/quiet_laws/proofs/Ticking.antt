@@ -11,7 +11,8 @@ use Rattle.homa_plain.specs.Entries.{PlainEntry, PlainClock}
 use Rattle.homa_plain.specs.Packets.{Packet}
 use Rattle.homa_plain.specs.Host.{Host, Told, Sends, packets_in, entries_from}
 use Rattle.homa_plain.specs.Rules.{Answer}
-use Rattle.homa_plain.specs.Steps.{Work, turn_step}
+use Rattle.homa_plain.specs.Work.{Work}
+use Rattle.homa_plain.specs.Steps.{turn_step}
 use Rattle.homa_plain.specs.World.{World, SentPacket, stamped, answers_left}
 use Rattle.homa_plain.specs.Replay.{Run, carried, ticks}
 use Rattle.homa_plain.specs.Quiet.{has_done, carried_round}

@@ -7,7 +7,9 @@ use Rattle.homa_plain.specs.declared.settings.Settings.{Settings}
 use Rattle.homa_plain.specs.Incoming.{Incoming}
 use Rattle.homa_plain.specs.Rows.{Replying}
 use Rattle.homa_plain.specs.Host.{Host}
-use Rattle.homa_plain.specs.Steps.{begun, refilled, acts, ended, turn_step}
+use Rattle.homa_plain.specs.Work.{begun}
+use Rattle.homa_plain.specs.Credit.{refilled}
+use Rattle.homa_plain.specs.Steps.{acts, ended, turn_step}
 use Rattle.quiet_laws.specs.Hosts.{Bits, client_host, server_host, asking}
 use Rattle.quiet_laws.proofs.Outs.{out_at}
 use Rattle.quiet_laws.proofs.Turns.{client_waits, server_waits, replier_waits, nobody_waits}

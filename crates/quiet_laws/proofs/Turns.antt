@@ -13,7 +13,8 @@ use Rattle.homa_plain.specs.Rows.{ClientRow, Receiving, Replying}
 use Rattle.homa_plain.specs.Host.{Told}
 use Rattle.homa_plain.specs.Timers.{Place, OfClient, OfServer, Timer, timer_key, timer, unless, client_deadline, is_client_at_rest, server_deadline, has_no_gap}
 use Rattle.homa_plain.specs.Outgoing.{has_waiting}
-use Rattle.homa_plain.specs.Steps.{Work, acts, all_act}
+use Rattle.homa_plain.specs.Work.{Work}
+use Rattle.homa_plain.specs.Steps.{acts, all_act}
 use Rattle.quiet_laws.specs.Hosts.{the_call, Bits, client_host, server_host, asking}
 
 -- one timer, which rests or isn't due

@@ -8,7 +8,8 @@ use Rattle.homa_plain.specs.declared.event.Event.TheVariants as event
 use Rattle.homa_plain.specs.Packets.{Packet}
 use Rattle.homa_plain.specs.Host.{Host, packets_in}
 use Rattle.homa_plain.specs.Rules.{Answer}
-use Rattle.homa_plain.specs.Steps.{Work, arrival_step}
+use Rattle.homa_plain.specs.Work.{Work}
+use Rattle.homa_plain.specs.Steps.{arrival_step}
 use Rattle.homa_plain.specs.World.{World, SentPacket, After, Done, outcome, stamped, answers_left, next_answer}
 use Rattle.homa_plain.specs.Replay.{Run, bare, carried, ticks}
 use Rattle.homa_plain.specs.Quiet.{Round, deliveries, round}

@@ -19,7 +19,9 @@ use Rattle.homa_plain.specs.Rows.{ClientRow}
 use Rattle.homa_plain.specs.Rules.{Answer, Did, Tells, version_of}
 use Rattle.homa_plain.specs.AtServer.{piece_of}
 use Rattle.homa_plain.specs.Script.{counting}
-use Rattle.homa_plain.specs.Steps.{Work, has_run, is_stale, arrival_step, asked, ended, comes, begun}
+use Rattle.homa_plain.specs.Work.{Work, begun}
+use Rattle.homa_plain.specs.Steps.{has_run, arrival_step, asked, ended, comes}
+use Rattle.homa_plain.specs.OldPackets.{is_stale}
 use Rattle.homa_plain.specs.World.{World, SentPacket, outcome, stamped, next_answer}
 use Rattle.homa_plain.specs.Quiet.{has_done}
 use Rattle.step_laws.proofs.ToldBy.{asked-carried}

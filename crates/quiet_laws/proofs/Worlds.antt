@@ -11,7 +11,8 @@ use Rattle.homa_plain.specs.declared.event.Event.TheVariants as event
 use Rattle.homa_plain.specs.Entries.{PlainEntry, PlainDeliver, PlainClock, PlainDone}
 use Rattle.homa_plain.specs.Host.{Host, packets_in, entries_from}
 use Rattle.homa_plain.specs.Rules.{Answer}
-use Rattle.homa_plain.specs.Steps.{Work, arrival_step, turn_step}
+use Rattle.homa_plain.specs.Work.{Work}
+use Rattle.homa_plain.specs.Steps.{arrival_step, turn_step}
 use Rattle.homa_plain.specs.World.{World, SentPacket, After, Done, Refused, outcome, delivered, is_late, stamped, answers_left, next_answer, last_tick}
 use Rattle.homa_plain.specs.Replay.{Happening, bare, ticks, Run, carried, after_event}
 use Rattle.homa_plain.specs.declared.fault.WorldFault.TheVariants.{Late, ClockEnd}

@@ -14,19 +14,26 @@ use Rattle.homa_plain.specs.declared.settings.Settings.{Settings}
 use Rattle.homa_plain.specs.Choice.{due}
 use Rattle.homa_plain.specs.Incoming.{Incoming, with_bytes, leaves_too_many_gaps, is_whole, message, first_gap}
 use Rattle.homa_plain.specs.Incoming as incoming
-use Rattle.homa_plain.specs.Outgoing.{Outgoing, Answer as OutAnswer, Busy, Queued, resend}
+use Rattle.homa_plain.specs.Outgoing.{Outgoing}
+use Rattle.homa_plain.specs.Busy.{Answer as OutAnswer, Busy, Queued, resend}
 use Rattle.homa_plain.specs.Entries.{PlainEntry, PlainJunk, PlainStale}
 use Rattle.homa_plain.specs.Packets.{Packet, sender, acks}
 use Rattle.homa_plain.specs.Rows.{ClientRow, ServerRow, State, Receiving, Held, Replying, Buried}
 use Rattle.homa_plain.specs.Host.{Host, pages_for, Told, Says, packets_in}
 use Rattle.homa_plain.specs.Rules.{Moment, Answer, Piece, Did, leaves, keeps, opening, version_of}
-use Rattle.homa_plain.specs.AtClient.{busy_for, unasked, client_gets}
+use Rattle.homa_plain.specs.Busy.{busy_for}
+use Rattle.homa_plain.specs.AtClient.{unasked, client_gets}
 use Rattle.homa_plain.specs.AtClient as client
 use Rattle.homa_plain.specs.AtServer.{held_gets, replying_gets, buried_gets, runs, piece_comes, opens, piece_of, unknown_gets, receiving_gets}
 use Rattle.homa_plain.specs.AtServer.{row_gets, server_gets}
 use Rattle.homa_plain.specs.Timers.{Place, OfClient, OfServer, Timer, timer_key, timers, resend_of, wanted, client_acts, state_acts, server_acts}
-use Rattle.homa_plain.specs.Steps.{Work, begun, now_of, moment, said, asked, served, comes_to_row, acked, takes, is_stale, comes, tells, gives_grants}
-use Rattle.homa_plain.specs.Steps.{pump, ended, arrival_step, hears_cutoffs, client_acted, server_acted, acts_at, all_act, acts, refilled, turn_step}
+use Rattle.homa_plain.specs.Work.{Work, begun, now_of, said, tells}
+use Rattle.homa_plain.specs.Steps.{moment, asked, served, comes_to_row, acked, takes, comes, gives_grants}
+use Rattle.homa_plain.specs.OldPackets.{is_stale}
+use Rattle.homa_plain.specs.SentNext.{pump}
+use Rattle.homa_plain.specs.Steps.{ended, arrival_step, client_acted, server_acted, acts_at, all_act, acts, turn_step}
+use Rattle.homa_plain.specs.CutoffsPackets.{hears_cutoffs}
+use Rattle.homa_plain.specs.Credit.{refilled}
 use Rattle.homa_plain.specs.Steps.{starts, call_step}
 use Rattle.step_laws.specs.StepLaws.{IsBounded}
 use Rattle.homa_plain.proofs.ChoiceLaws.{few-due}

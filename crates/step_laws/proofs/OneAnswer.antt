@@ -18,19 +18,26 @@ use Rattle.homa_plain.specs.declared.settings.Settings.{Settings}
 use Rattle.homa_plain.specs.Choice.{due}
 use Rattle.homa_plain.specs.Incoming.{Incoming, with_bytes, leaves_too_many_gaps, is_whole, message, first_gap}
 use Rattle.homa_plain.specs.Incoming as incoming
-use Rattle.homa_plain.specs.Outgoing.{Outgoing, Answer as OutAnswer, Busy, Queued, resend}
+use Rattle.homa_plain.specs.Outgoing.{Outgoing}
+use Rattle.homa_plain.specs.Busy.{Answer as OutAnswer, Busy, Queued, resend}
 use Rattle.homa_plain.specs.Entries.{PlainRun, PlainJunk, PlainStale}
 use Rattle.homa_plain.specs.Packets.{Packet, sender, acks}
 use Rattle.homa_plain.specs.Rows.{ClientRow, ServerRow, State, Receiving, Held, Replying, Buried}
 use Rattle.homa_plain.specs.Host.{Host, pages_for, Told, Says, packets_in}
 use Rattle.homa_plain.specs.Rules.{Moment, Answer, Piece, Say, Tells, Did, leaves, keeps, opening, version_of}
-use Rattle.homa_plain.specs.AtClient.{busy_for, unasked, client_gets}
+use Rattle.homa_plain.specs.Busy.{busy_for}
+use Rattle.homa_plain.specs.AtClient.{unasked, client_gets}
 use Rattle.homa_plain.specs.AtClient as client
 use Rattle.homa_plain.specs.AtServer.{held_gets, replying_gets, buried_gets, runs, piece_added, piece_comes, opens, piece_of, unknown_gets}
-use Rattle.homa_plain.specs.AtServer.{receiving_gets, row_gets, server_gets, server_acked}
-use Rattle.homa_plain.specs.Steps.{Work, begun, now_of, moment, said, asked, served, comes_to_row, acked, takes, is_stale, comes, tells, gives_grants}
-use Rattle.homa_plain.specs.Steps.{ended, arrival_step, has_run, arrival_or_none, hears_cutoffs, client_acted, server_acted, acts_at, all_act, acts}
-use Rattle.homa_plain.specs.Steps.{refilled, turn_step, starts, call_step}
+use Rattle.homa_plain.specs.AtServer.{receiving_gets, row_gets, server_gets}
+use Rattle.homa_plain.specs.Tombstones.{server_acked}
+use Rattle.homa_plain.specs.Work.{Work, begun, now_of, said, tells}
+use Rattle.homa_plain.specs.Steps.{moment, asked, served, comes_to_row, acked, takes, comes, gives_grants}
+use Rattle.homa_plain.specs.OldPackets.{is_stale}
+use Rattle.homa_plain.specs.Steps.{ended, arrival_step, has_run, arrival_or_none, client_acted, server_acted, acts_at, all_act, acts}
+use Rattle.homa_plain.specs.CutoffsPackets.{hears_cutoffs}
+use Rattle.homa_plain.specs.Credit.{refilled}
+use Rattle.homa_plain.specs.Steps.{turn_step, starts, call_step}
 use Rattle.homa_plain.specs.Timers.{Place, OfClient, OfServer, Timer, timer_key, timers, resend_of, wanted, client_acts, state_acts, server_acts}
 use Rattle.step_laws.specs.StepLaws.{run_count}
 use Rattle.step_laws.proofs.ToldBy.{run_count-append, Calm, calm_none, calm_then, asks, said-runs, Carried, one_if_some, acked_one-calm}

@@ -17,7 +17,8 @@ use Rattle.homa_plain.specs.Rules.{Moment, Answer, Piece, Did, leaves, keeps, op
 use Rattle.homa_plain.specs.AtClient.{unasked, client_gets}
 use Rattle.homa_plain.specs.AtClient as client
 use Rattle.homa_plain.specs.AtServer.{held_gets, replying_gets, buried_gets, runs, piece_comes, opens, piece_of, unknown_gets, receiving_gets}
-use Rattle.homa_plain.specs.AtServer.{row_gets, server_gets, state_acked, server_acked}
+use Rattle.homa_plain.specs.AtServer.{row_gets, server_gets}
+use Rattle.homa_plain.specs.Tombstones.{state_acked, server_acked}
 use Rattle.homa_plain.specs.Timers.{client_acts, state_acts, server_acts}
 use Rattle.step_laws.specs.StepLaws.{client_order, server_order, response_order, request_order, reply_order, arriving_in, leaving_in}
 

@@ -16,8 +16,10 @@ use Rattle.homa_plain.specs.Host.{peer_cutoffs}
 use Rattle.homa_plain.specs.Rules.{Did}
 use Rattle.homa_plain.specs.Timers.{Place, OfClient, OfServer, client_acts, server_acts}
 use Rattle.homa_plain.specs.Sending.{client_granted, server_granted, response_content, client_sends, state_sends}
-use Rattle.homa_plain.specs.Steps.{Work, now_of, asked, served, moment, client_acted, server_acted, acts_at, client_is_granted, server_is_granted}
-use Rattle.homa_plain.specs.Steps.{grants_at, request_leaves, response_leaves, client_leaves, state_leaves, server_leaves, leaves_from, next_id}
+use Rattle.homa_plain.specs.Work.{Work, now_of}
+use Rattle.homa_plain.specs.Steps.{asked, served, moment, client_acted, server_acted, acts_at, client_is_granted, server_is_granted}
+use Rattle.homa_plain.specs.Steps.{grants_at, next_id}
+use Rattle.homa_plain.specs.SentNext.{request_leaves, response_leaves, client_leaves, state_leaves, server_leaves, leaves_from}
 use Rattle.homa_plain.specs.Steps.{new_call, starts}
 use Rattle.homa_plain.proofs.CallOrder.{call_total, calls_are}
 use Rattle.step_laws.specs.StepLaws.{LeavesOthers}

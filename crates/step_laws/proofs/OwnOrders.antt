@@ -23,14 +23,23 @@ use Rattle.homa_plain.specs.Host.{Host, new_host, peer_cutoffs, packets_in, Says
 use Rattle.homa_plain.specs.Entries.{PlainStale}
 use Rattle.homa_plain.specs.Rules.{Did, Answer}
 use Rattle.homa_plain.specs.AtClient.{client_gets}
-use Rattle.homa_plain.specs.AtServer.{server_gets, server_acked}
+use Rattle.homa_plain.specs.AtServer.{server_gets}
+use Rattle.homa_plain.specs.Tombstones.{server_acked}
 use Rattle.homa_plain.specs.Timers.{Place, OfClient, OfServer, Timer, timer_key, timers, client_acts, server_acts}
-use Rattle.homa_plain.specs.Sending.{Arriving, arrivals, client_granted, server_granted, state_granted, granted_part, Leaving, leaving_key}
-use Rattle.homa_plain.specs.Sending.{departures, while_new, client_sends, state_sends, response_content}
-use Rattle.homa_plain.specs.Steps.{Work, begun, now_of, tells, asked, served, moment, comes_to_row, acked, takes, is_stale, comes, hears_cutoffs}
-use Rattle.homa_plain.specs.Steps.{client_acted, server_acted, acts_at, all_act, acts, refilled, client_is_granted, server_is_granted, grants_at}
-use Rattle.homa_plain.specs.Steps.{all_granted, gives_grants, request_leaves, response_leaves, client_leaves, state_leaves, server_leaves}
-use Rattle.homa_plain.specs.Steps.{leaves_from, first_leaves, pumped_once, pumps, most_packets, ended, next_id, new_call, starts, call_step}
+use Rattle.homa_plain.specs.Sending.{Arriving, arrivals, client_granted, server_granted, state_granted, granted_part}
+use Rattle.homa_plain.specs.SentNext.{Leaving, leaving_key}
+use Rattle.homa_plain.specs.SentNext.{departures}
+use Rattle.homa_plain.specs.Sending.{while_new, client_sends, state_sends, response_content}
+use Rattle.homa_plain.specs.Work.{Work, begun, now_of, tells}
+use Rattle.homa_plain.specs.Steps.{asked, served, moment, comes_to_row, acked, takes, comes}
+use Rattle.homa_plain.specs.OldPackets.{is_stale}
+use Rattle.homa_plain.specs.CutoffsPackets.{hears_cutoffs}
+use Rattle.homa_plain.specs.Steps.{client_acted, server_acted, acts_at, all_act, acts, client_is_granted, server_is_granted, grants_at}
+use Rattle.homa_plain.specs.Credit.{refilled}
+use Rattle.homa_plain.specs.Steps.{all_granted, gives_grants}
+use Rattle.homa_plain.specs.SentNext.{request_leaves, response_leaves, client_leaves, state_leaves, server_leaves}
+use Rattle.homa_plain.specs.SentNext.{leaves_from, first_leaves, pumped_once, pumps, most_packets}
+use Rattle.homa_plain.specs.Steps.{ended, next_id, new_call, starts, call_step}
 use Rattle.homa_plain.specs.Steps.{arrival_step, turn_step}
 use Rattle.step_laws.specs.StepLaws.{is_at_client, is_at_server, LeavesOthers, LeavesRows, client_order, server_order, response_order, request_order}
 use Rattle.step_laws.specs.StepLaws.{reply_order, arriving_in, leaving_in, number_at, AreOwn, HasOwnOrders}

@@ -23,7 +23,8 @@ use Rattle.homa_plain.specs.Rows.{ClientRow, ServerRow, State, Receiving, Held, 
 use Rattle.homa_plain.specs.Rules.{Moment, Did}
 use Rattle.homa_plain.specs.Timers.{Place, OfClient, OfServer, Timer, timer_key, timer, timers, unless, has_no_gap, client_deadline, server_deadline}
 use Rattle.homa_plain.specs.Timers.{is_client_at_rest, client_acts, state_acts, server_acts}
-use Rattle.homa_plain.specs.Steps.{Work, now_of, moment, asked, served, client_acted, server_acted, acts_at, all_act, acts}
+use Rattle.homa_plain.specs.Work.{Work, now_of}
+use Rattle.homa_plain.specs.Steps.{moment, asked, served, client_acted, server_acted, acts_at, all_act, acts}
 use Rattle.step_laws.specs.StepLaws.{first_acts, picked_anew}
 use Rattle.step_laws.proofs.ToldBy.{asked-carried, served-carried, asked-clients, asked-servers, served-servers, served-clients}
 use Rattle.homa_plain.proofs.CallOrder.{call_total, call_same, calls_are}

@@ -12,10 +12,15 @@ use Rattle.homa_plain.specs.Outgoing.{next_range}
 use Rattle.homa_plain.specs.Rows.{ClientRow, ServerRow, State, Replying}
 use Rattle.homa_plain.specs.Host.{peer_cutoffs, packets_in}
 use Rattle.homa_plain.specs.Timers.{Place, OfClient, OfServer}
-use Rattle.homa_plain.specs.Sending.{Arriving, arrivals, Leaving, leaving_key, departures, response_content}
-use Rattle.homa_plain.specs.Steps.{Work, now_of, client_is_granted, server_is_granted, grants_at, all_granted, gives_grants, request_leaves}
-use Rattle.homa_plain.specs.Steps.{response_leaves, if_affordable, client_leaves, state_leaves, server_leaves, leaves_from, first_leaves, pumped_once}
-use Rattle.homa_plain.specs.Steps.{pumps, pump, ended}
+use Rattle.homa_plain.specs.Sending.{Arriving, arrivals, response_content}
+use Rattle.homa_plain.specs.SentNext.{Leaving, leaving_key, departures}
+use Rattle.homa_plain.specs.Work.{Work, now_of}
+use Rattle.homa_plain.specs.Steps.{client_is_granted, server_is_granted, grants_at, all_granted, gives_grants}
+use Rattle.homa_plain.specs.SentNext.{request_leaves}
+use Rattle.homa_plain.specs.SentNext.{response_leaves, client_leaves, state_leaves, server_leaves, leaves_from, first_leaves, pumped_once}
+use Rattle.homa_plain.specs.Credit.{if_affordable}
+use Rattle.homa_plain.specs.SentNext.{pumps, pump}
+use Rattle.homa_plain.specs.Steps.{ended}
 use Rattle.homa_plain.proofs.ChoiceLaws.{few-grants}
 use Rattle.step_laws.proofs.ToldBy.{Calm, calm_none, calm_then, calm_more}
 

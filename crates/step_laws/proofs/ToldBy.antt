@@ -16,8 +16,11 @@ use Rattle.homa_plain.specs.Entries.{PlainRun}
 use Rattle.homa_plain.specs.Host.{Host, Tuned, tuned, Tuning, is_balance_due, counted, peer_cutoffs, finished_at, Told, Says, Sends, packets_in}
 use Rattle.homa_plain.specs.Rows.{ClientRow, ServerRow, State, Receiving, Held, Replying, Buried, set_row}
 use Rattle.homa_plain.specs.Rules.{Say, Tells, Posts, Did, Moment}
-use Rattle.homa_plain.specs.AtServer.{state_acked, server_acked}
-use Rattle.homa_plain.specs.Steps.{Work, tells, posts, said, notes, tells_cutoffs, acknowledged, finishes, is_newer, hears_cutoffs, asked, served, moment}
+use Rattle.homa_plain.specs.Tombstones.{state_acked, server_acked}
+use Rattle.homa_plain.specs.Work.{Work, tells, posts, said}
+use Rattle.homa_plain.specs.CutoffsPackets.{notes, tells_cutoffs, is_newer, hears_cutoffs}
+use Rattle.homa_plain.specs.FiveAcks.{acknowledged, finishes}
+use Rattle.homa_plain.specs.Steps.{asked, served, moment}
 use Rattle.step_laws.specs.StepLaws.{run_count, LeavesRows}
 
 -- ---- lists of what is told

@@ -12,7 +12,9 @@ use Rattle.homa_plain.specs.Incoming.{Incoming}
 use Rattle.homa_plain.specs.Rows.{ClientRow, ServerRow, State, Receiving, Replying}
 use Rattle.homa_plain.specs.Host.{Host, Told, Says, packets_in}
 use Rattle.homa_plain.specs.Timers.{Place, OfClient, OfServer, Timer, timer_key, timers}
-use Rattle.homa_plain.specs.Steps.{Work, now_of, acts_at, most_packets}
+use Rattle.homa_plain.specs.Work.{Work, now_of}
+use Rattle.homa_plain.specs.Steps.{acts_at}
+use Rattle.homa_plain.specs.SentNext.{most_packets}
 
 -- how many RUNs are told
 abbrev pub run_count : List Told → ℕ

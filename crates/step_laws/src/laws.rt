@@ -13,8 +13,13 @@ ghost use Rattle.homa_plain.specs.Rows.{ClientRow, ServerRow};
 ghost use Rattle.homa_plain.specs.Host.{Host, new_host, Says};
 ghost use Rattle.homa_plain.specs.Rules.{Answer, Did};
 ghost use Rattle.homa_plain.specs.Timers.{Place, OfClient, OfServer, timer_key, timers};
-ghost use Rattle.homa_plain.specs.Sending.{arrivals, leaving_key, departures};
-ghost use Rattle.homa_plain.specs.Steps.{Work, notes, tells_cutoffs, finishes, asked, served, hears_cutoffs, acts_at, acts, grants_at, leaves_from};
+ghost use Rattle.homa_plain.specs.Sending.{arrivals};
+ghost use Rattle.homa_plain.specs.SentNext.{leaving_key, departures};
+ghost use Rattle.homa_plain.specs.Work.{Work};
+ghost use Rattle.homa_plain.specs.CutoffsPackets.{notes, tells_cutoffs, hears_cutoffs};
+ghost use Rattle.homa_plain.specs.FiveAcks.{finishes};
+ghost use Rattle.homa_plain.specs.Steps.{asked, served, acts_at, acts, grants_at};
+ghost use Rattle.homa_plain.specs.SentNext.{leaves_from};
 ghost use Rattle.homa_plain.specs.Steps.{next_id, starts, call_step, arrival_step, turn_step, has_run, arrival_or_none};
 ghost use Rattle.step_laws.specs.StepLaws.{run_count, LeavesOthers, LeavesRows, IsBounded, HasOwnOrders, picked_anew};
 

@@ -12,7 +12,10 @@ use Rattle.homa_plain.specs.declared.settings.Settings.{Settings}
 use Rattle.homa_plain.specs.Rows.{ClientRow, set_row}
 use Rattle.homa_plain.specs.Host.{Told, Sends, packets_in, finished_at, with_finished}
 use Rattle.homa_plain.specs.Rules.{Did}
-use Rattle.homa_plain.specs.Steps.{Work, tells, posts, said, notes, tells_cutoffs, acknowledged, finishes, asked, bare, packet_from}
+use Rattle.homa_plain.specs.Work.{Work, tells, posts, said, bare, packet_from}
+use Rattle.homa_plain.specs.CutoffsPackets.{notes, tells_cutoffs}
+use Rattle.homa_plain.specs.FiveAcks.{acknowledged, finishes}
+use Rattle.homa_plain.specs.Steps.{asked}
 use Rattle.step_laws.proofs.ToldBy.{packets_in-append, asked-clients, asked-servers}
 use Rattle.step_laws.proofs.Places.{all-append}
 use Rattle.step_moves.proofs.Inner.{inner-append, AllInner}

@@ -17,8 +17,9 @@ use Rattle.homa_plain.specs.Outgoing.{Outgoing, has_waiting}
 use Rattle.homa_plain.specs.Rows.{ClientRow, ServerRow, State, Receiving, Replying, RowsOf}
 use Rattle.homa_plain.specs.Host.{Host}
 use Rattle.homa_plain.specs.Timers.{Place, OfClient, OfServer, Timer, timer_key, timer, timers, client_deadline, server_deadline}
-use Rattle.homa_plain.specs.Sending.{Arriving, arriving_at_client, arriving_at_server, arrivals, Leaving, leaving_key, may_send_request}
-use Rattle.homa_plain.specs.Sending.{leaving_at_client, leaving_at_server, departures}
+use Rattle.homa_plain.specs.Sending.{Arriving, arriving_at_client, arriving_at_server, arrivals}
+use Rattle.homa_plain.specs.SentNext.{Leaving, leaving_key, may_send_request}
+use Rattle.homa_plain.specs.SentNext.{leaving_at_client, leaving_at_server, departures}
 use Rattle.homa_plain.proofs.CallOrder.{call_total, call_same}
 use Rattle.homa_plain.proofs.ChoiceLaws.{deadline-due, chosen-contains, differ-chosen, grant-chosen}
 use Rattle.step_laws.proofs.Places.{all-append}

@@ -16,11 +16,15 @@ use Rattle.homa_plain.specs.Outgoing.{Outgoing, next_range}
 use Rattle.homa_plain.specs.Rows.{ClientRow, ServerRow, State, Receiving, Held, Replying, Buried}
 use Rattle.homa_plain.specs.Host.{Host, peer_cutoffs, packets_in}
 use Rattle.homa_plain.specs.Timers.{Place, OfClient, OfServer, Timer, timer_key, timers}
-use Rattle.homa_plain.specs.Sending.{Arriving, Leaving, leaving_key, departures, may_send_request, response_content}
-use Rattle.homa_plain.specs.AtServer.{server_acked}
-use Rattle.homa_plain.specs.Steps.{Work, now_of, moment, served, acked, acts, acts_at, grants_at, all_granted, gives_grants, client_is_granted}
-use Rattle.homa_plain.specs.Steps.{server_is_granted, request_leaves, response_leaves, client_leaves, state_leaves, server_leaves, leaves_from}
-use Rattle.homa_plain.specs.Steps.{first_leaves, pumped_once, pumps, pump, ended, most_packets}
+use Rattle.homa_plain.specs.Sending.{Arriving, response_content}
+use Rattle.homa_plain.specs.SentNext.{Leaving, leaving_key, departures, may_send_request}
+use Rattle.homa_plain.specs.Tombstones.{server_acked}
+use Rattle.homa_plain.specs.Work.{Work, now_of}
+use Rattle.homa_plain.specs.Steps.{moment, served, acked, acts, acts_at, grants_at, all_granted, gives_grants, client_is_granted}
+use Rattle.homa_plain.specs.Steps.{server_is_granted}
+use Rattle.homa_plain.specs.SentNext.{request_leaves, response_leaves, client_leaves, state_leaves, server_leaves, leaves_from}
+use Rattle.homa_plain.specs.SentNext.{first_leaves, pumped_once, pumps, pump, most_packets}
+use Rattle.homa_plain.specs.Steps.{ended}
 use Rattle.homa_plain.proofs.CallOrder.{calls_are}
 use Rattle.step_laws.specs.StepLaws.{first_acts, picked_anew, is_at_client, is_at_server, LeavesOthers}
 use Rattle.step_laws.proofs.Others.{grants_at-others}

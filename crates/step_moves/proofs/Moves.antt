@@ -17,7 +17,9 @@ use Rattle.homa_plain.specs.Rows.{ClientRow, ServerRow, RowsOf, set_row}
 use Rattle.homa_plain.specs.Host.{Host, Told, Sends, packets_in, Tuned, tuned, is_balance_due, counted, finished_at}
 use Rattle.homa_plain.specs.Rules.{Say, Tells, Posts, Did}
 use Rattle.homa_plain.specs.Sending.{Content}
-use Rattle.homa_plain.specs.Steps.{Work, tells, said, notes, tells_cutoffs, served, bare, packet_from}
+use Rattle.homa_plain.specs.Work.{Work, tells, said, bare, packet_from}
+use Rattle.homa_plain.specs.CutoffsPackets.{notes, tells_cutoffs}
+use Rattle.homa_plain.specs.Steps.{served}
 use Rattle.step_laws.proofs.ToldBy.{packets_in-append, served-servers, served-clients}
 use Rattle.step_laws.proofs.Places.{all-append}
 use Rattle.step_moves.proofs.Inner.{inner-append, AllInner, IsSaid}

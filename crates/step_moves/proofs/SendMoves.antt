@@ -14,8 +14,11 @@ use Rattle.homa_plain.specs.Packets.{Packet}
 use Rattle.homa_plain.specs.Rows.{ClientRow, ServerRow, set_row}
 use Rattle.homa_plain.specs.Host.{Says, Sends, peer_cutoffs, finished_at}
 use Rattle.homa_plain.specs.Sending.{Content, client_granted, server_granted, client_sends, state_sends, request_content}
-use Rattle.homa_plain.specs.Steps.{Work, now_of, tells, bare, packet_from, is_newer, hears_cutoffs, client_is_granted, server_is_granted, oldest}
-use Rattle.homa_plain.specs.Steps.{request_leaves, response_leaves}
+use Rattle.homa_plain.specs.Work.{Work, now_of, tells, bare, packet_from}
+use Rattle.homa_plain.specs.CutoffsPackets.{is_newer, hears_cutoffs}
+use Rattle.homa_plain.specs.Steps.{client_is_granted, server_is_granted}
+use Rattle.homa_plain.specs.FiveAcks.{oldest}
+use Rattle.homa_plain.specs.SentNext.{request_leaves, response_leaves}
 use Rattle.step_moves.proofs.Inner.{IsSaid}
 use Rattle.step_moves.proofs.Moves.{IsMove, from_host}
 

@@ -6,7 +6,7 @@ use Rattle.homa_plain.specs.declared.id.HostId.{HostId}
 use Rattle.homa_plain.specs.declared.settings.Settings.{Settings}
 use Rattle.homa_plain.specs.Settings.{IsValid, accepted_life}
 use Rattle.homa_plain.specs.Host.{Host}
-use Rattle.homa_plain.specs.Steps.{is_stale}
+use Rattle.homa_plain.specs.OldPackets.{is_stale}
 use Rattle.homa_plain.specs.World.{World, SentPacket, host_at, own_clock, is_late}
 use Rattle.step_moves.specs.Worlds.{IsFresh, IsTimed, IsDated, HasClocks}
 

@@ -10,16 +10,20 @@ use Rattle.homa_plain.specs.declared.entry.Why.TheVariants.{Timeout}
 use Rattle.homa_plain.specs.Entries.{PlainDone, PlainFail}
 use Rattle.homa_plain.specs.Incoming.{Incoming, with_bytes, is_whole, leaves_too_many_gaps}
 use Rattle.homa_plain.specs.Incoming as incoming
-use Rattle.homa_plain.specs.Outgoing.{Outgoing, Answer, Busy, Queued, Resent, Change, changed, Grant, Resend, Restart, grant, resend, restart}
+use Rattle.homa_plain.specs.Outgoing.{Outgoing, grant, restart}
+use Rattle.homa_plain.specs.Busy.{Answer, Busy, Queued, Resent, resend}
+use Rattle.homa_plain.specs.OutgoingChanges.{Change, changed, Grant, Resend, Restart}
 use Rattle.homa_plain.specs.Outgoing as outgoing
 use Rattle.homa_plain.specs.Rows.{ClientRow}
 use Rattle.homa_plain.specs.Host.{pages_for}
 use Rattle.homa_plain.specs.Rules.{Moment, Piece, Say, Tells, Posts, Did, keeps, opening}
-use Rattle.homa_plain.specs.AtClient.{busy_for, piece_comes, response_piece, answered, unasked, started_over}
+use Rattle.homa_plain.specs.Busy.{busy_for}
+use Rattle.homa_plain.specs.AtClient.{piece_comes, response_piece, answered, unasked, started_over}
 use Rattle.homa_plain.proofs.OutgoingLaws.{sound-grant, sound-resend, sound-restart}
 use Rattle.trace_steps.specs.Contents.{called_by}
 use Rattle.step_moves.proofs.Hosts.{some_is, none_some}
 use Rattle.trace_fails.proofs.FairRows.{SameTimer}
+use Rattle.homa_plain.specs.Busy as busy
 
 -- neither a RESEND nor a piece of a message
 abbrev pub IsBare : Body → Type 0
@@ -103,10 +107,10 @@ module _ (s : Settings) (m : Moment) (id : CallId) where
   granted_out p end prio =
       cond_both (nat_lt p.granted end) _ _ (λ (o : Outgoing). (o.top ≡ p.top) × (o.length ≡ p.length)) (λ _. (refl, refl)) (λ _. (refl, refl))
 
-  resent_out : (p : Outgoing) (a b prio : ℕ) → ((outgoing.resend_up_to p a b prio).part.top ≡ p.top)
-      × ((outgoing.resend_up_to p a b prio).part.length ≡ p.length)
+  resent_out : (p : Outgoing) (a b prio : ℕ) → ((busy.resend_up_to p a b prio).part.top ≡ p.top)
+      × ((busy.resend_up_to p a b prio).part.length ≡ p.length)
   resent_out p a b prio =
-      cond_both (outgoing.is_busy p a b) _ _ (λ (o : Resent). (o.part.top ≡ p.top) × (o.part.length ≡ p.length)) (λ _. (refl, refl)) (λ _. (refl, refl))
+      cond_both (busy.is_busy p a b) _ _ (λ (o : Resent). (o.part.top ≡ p.top) × (o.part.length ≡ p.length)) (λ _. (refl, refl)) (λ _. (refl, refl))
 
   busy_bare : (a : Answer) → AllBare (busy_for a) × NoTimeouts (busy_for a) × (ends_said (busy_for a) ≡ false)
   busy_bare Busy = ((tt, tt), tt, refl)

@@ -11,7 +11,8 @@ use Rattle.homa_plain.specs.Calls.{is_call}
 use Rattle.homa_plain.specs.Rows.{ClientRow, ServerRow, RowsOf, set_row}
 use Rattle.homa_plain.specs.Host.{Host, Told, packets_in, entries_from}
 use Rattle.homa_plain.specs.Rules.{Did}
-use Rattle.homa_plain.specs.Steps.{Work, asked, served}
+use Rattle.homa_plain.specs.Work.{Work}
+use Rattle.homa_plain.specs.Steps.{asked, served}
 use Rattle.trace_rules.specs.View.{View, own_tick}
 use Rattle.trace_rules.specs.Seen.{seen_all}
 use Rattle.trace_rules.specs.Laws.{Holds}

@@ -17,7 +17,10 @@ use Rattle.homa_plain.specs.Packets.{Packet, receiver, receiver_of}
 use Rattle.homa_plain.specs.Rows.{ClientRow}
 use Rattle.homa_plain.specs.Host.{Host, Says, entries_from}
 use Rattle.homa_plain.specs.Rules.{Answer}
-use Rattle.homa_plain.specs.Steps.{Work, begun, starts, next_id, new_call, comes, takes, is_stale, acts, refilled, ended, tells, call_step}
+use Rattle.homa_plain.specs.Work.{Work, begun, tells}
+use Rattle.homa_plain.specs.Steps.{starts, next_id, new_call, comes, takes, acts, ended, call_step}
+use Rattle.homa_plain.specs.OldPackets.{is_stale}
+use Rattle.homa_plain.specs.Credit.{refilled}
 use Rattle.homa_plain.specs.Steps.{arrival_step, turn_step}
 use Rattle.trace_rules.specs.View.{View, Called, Sent, Progress, own_tick, has_last, sent_last}
 use Rattle.trace_rules.specs.Seen.{seen, seen_all}

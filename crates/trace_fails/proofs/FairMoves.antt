@@ -24,8 +24,11 @@ use Rattle.homa_plain.specs.Host.{Says, Sends, peer_cutoffs, finished_at}
 use Rattle.homa_plain.specs.Rules.{Tells, Did, says}
 use Rattle.homa_plain.specs.Timers.{Place, OfClient, OfServer, resend_of, client_deadline, client_acts, server_acts}
 use Rattle.homa_plain.specs.Sending.{client_granted, server_granted, client_sends, state_sends, slice, response_content}
-use Rattle.homa_plain.specs.Steps.{Work, now_of, moment, asked, bare, packet_from, client_acted, server_acted, acts_at, acts, client_is_granted}
-use Rattle.homa_plain.specs.Steps.{server_is_granted, request_leaves, response_leaves, oldest, ended}
+use Rattle.homa_plain.specs.Work.{Work, now_of, bare, packet_from}
+use Rattle.homa_plain.specs.Steps.{moment, asked, client_acted, server_acted, acts_at, acts, client_is_granted}
+use Rattle.homa_plain.specs.Steps.{server_is_granted, ended}
+use Rattle.homa_plain.specs.SentNext.{request_leaves, response_leaves}
+use Rattle.homa_plain.specs.FiveAcks.{oldest}
 use Rattle.trace_rules.specs.View.{View, Called, own_tick, has_last, sent_last, resends_of}
 use Rattle.trace_rules.specs.Seen.{seen}
 use Rattle.trace_rules.specs.Laws.{AreSpaced, IsUnanswered}

@@ -20,8 +20,11 @@ use Rattle.homa_plain.specs.Rows.{ClientRow, RowsOf}
 use Rattle.homa_plain.specs.Host.{Host, Says}
 use Rattle.homa_plain.specs.Rules.{Moment, Answer, Did, keeps}
 use Rattle.homa_plain.specs.AtClient.{client_gets, answered, unasked, renewed, refreshed}
-use Rattle.homa_plain.specs.AtServer.{server_gets, server_acked}
-use Rattle.homa_plain.specs.Steps.{Work, moment, asked, hears_cutoffs, comes_to_row, acked, takes, comes}
+use Rattle.homa_plain.specs.AtServer.{server_gets}
+use Rattle.homa_plain.specs.Tombstones.{server_acked}
+use Rattle.homa_plain.specs.Work.{Work}
+use Rattle.homa_plain.specs.Steps.{moment, asked, comes_to_row, acked, takes, comes}
+use Rattle.homa_plain.specs.CutoffsPackets.{hears_cutoffs}
 use Rattle.homa_plain.specs.Wire.{is_server}
 use Rattle.trace_rules.specs.Seen as lines
 use Rattle.trace_rules.specs.View.{View, has_last, Called, Sent, own_tick, sent_last, resends_of, is_server_of}

@@ -20,7 +20,7 @@ use Rattle.homa_plain.specs.Packets.{Packet, sender, sender_of, send_line}
 use Rattle.homa_plain.specs.Rows.{ClientRow, ServerRow}
 use Rattle.homa_plain.specs.Host.{Host, Told, Says, Sends, packets_in, entries_from, Tuned, tuned, is_balance_due, counted, finished_at}
 use Rattle.homa_plain.specs.Rules.{Say, Tells, Posts, Did}
-use Rattle.homa_plain.specs.Steps.{Work, said}
+use Rattle.homa_plain.specs.Work.{Work, said}
 use Rattle.trace_rules.specs.View.{View, Called, Sent, has_last, sent_last, resends_of}
 use Rattle.trace_rules.specs.Seen.{seen, seen_all}
 use Rattle.trace_rules.specs.Laws.{Holds}

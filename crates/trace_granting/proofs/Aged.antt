@@ -5,7 +5,8 @@ use Rattle.homa_plain.specs.declared.settings.Settings.{Settings}
 use Rattle.trace_rules.specs.Parts.{Part}
 use Rattle.homa_plain.specs.Host.{Host, entries_from}
 use Rattle.homa_plain.specs.Timers.{Place, OfClient}
-use Rattle.homa_plain.specs.Steps.{Work, next_id, ended}
+use Rattle.homa_plain.specs.Work.{Work}
+use Rattle.homa_plain.specs.Steps.{next_id, ended}
 use Rattle.trace_rules.specs.View.{View}
 use Rattle.trace_rules.specs.Laws.{Holds}
 use Rattle.trace_rules.specs.Granting.{Granting}

@@ -24,11 +24,12 @@ use Rattle.trace_rules.specs.Parts.{Part, Parts, raised, changed}
 use Rattle.homa_plain.specs.Rows.{ClientRow, ServerRow, State, Receiving, Held, Replying, Buried, RowsOf, set_row}
 use Rattle.homa_plain.specs.Host.{Host, Told, Says, Sends, entries_from}
 use Rattle.homa_plain.specs.Rules.{Say, Tells, Posts, Did, Moment}
-use Rattle.homa_plain.specs.AtServer.{server_acked, state_acked}
+use Rattle.homa_plain.specs.Tombstones.{server_acked, state_acked}
 use Rattle.homa_plain.specs.Timers.{Place, OfClient, OfServer, client_acts, server_acts, state_acts}
 use Rattle.homa_plain.specs.Sending.{client_sends, state_sends, granted_part, state_granted}
-use Rattle.homa_plain.specs.Steps.{Work, now_of, moment, served, asked, acked, acts, acts_at, client_acted, server_acted, ended}
-use Rattle.homa_plain.specs.Steps.{said as said_by}
+use Rattle.homa_plain.specs.Work.{Work, now_of}
+use Rattle.homa_plain.specs.Steps.{moment, served, asked, acked, acts, acts_at, client_acted, server_acted, ended}
+use Rattle.homa_plain.specs.Work.{said as said_by}
 use Rattle.trace_rules.specs.View.{View, Sent, Progress, is_server_of, sent_last, own_tick, resends_of, has_run}
 use Rattle.trace_rules.specs.Seen.{seen, seen_all, refused, failed, finished, dropped, said, renewed, is_delivery_to}
 use Rattle.homa_plain.specs.World.{World}

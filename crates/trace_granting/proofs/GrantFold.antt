@@ -15,7 +15,8 @@ use Rattle.homa_plain.specs.Rows.{ClientRow, ServerRow, Receiving, RowsOf, set_r
 use Rattle.homa_plain.specs.Host.{Host, Told, Sends, packets_in, entries_from}
 use Rattle.homa_plain.specs.Timers.{Place, OfClient, OfServer}
 use Rattle.homa_plain.specs.Sending.{Arriving, client_granted, server_granted, state_granted, granted_part, client_sends, state_sends}
-use Rattle.homa_plain.specs.Steps.{Work, now_of, grants_at, client_is_granted, server_is_granted, gives_grants, ended}
+use Rattle.homa_plain.specs.Work.{Work, now_of}
+use Rattle.homa_plain.specs.Steps.{grants_at, client_is_granted, server_is_granted, gives_grants, ended}
 use Rattle.trace_rules.specs.View.{View}
 use Rattle.trace_rules.specs.Seen.{seen}
 use Rattle.trace_rules.specs.Laws.{Holds}

@@ -17,8 +17,12 @@ use Rattle.trace_rules.specs.Parts.{Part}
 use Rattle.homa_plain.specs.Host.{Host, Says}
 use Rattle.homa_plain.specs.Rules.{Answer}
 use Rattle.homa_plain.specs.Timers.{Place, OfClient, OfServer}
-use Rattle.homa_plain.specs.Steps.{Work, begun, now_of, tells, starts, next_id, new_call, comes, takes, is_stale, hears_cutoffs, comes_to_row, acts}
-use Rattle.homa_plain.specs.Steps.{refilled, ended, call_step, arrival_step, turn_step}
+use Rattle.homa_plain.specs.Work.{Work, begun, now_of, tells}
+use Rattle.homa_plain.specs.Steps.{starts, next_id, new_call, comes, takes, comes_to_row, acts}
+use Rattle.homa_plain.specs.OldPackets.{is_stale}
+use Rattle.homa_plain.specs.CutoffsPackets.{hears_cutoffs}
+use Rattle.homa_plain.specs.Credit.{refilled}
+use Rattle.homa_plain.specs.Steps.{ended, call_step, arrival_step, turn_step}
 use Rattle.trace_rules.specs.View.{View, Sent, Progress}
 use Rattle.trace_rules.specs.Seen.{seen}
 use Rattle.homa_plain.specs.World.{World, SentPacket, host_at, own_clock, is_late}

@@ -12,7 +12,7 @@ use Rattle.homa_plain.specs.Incoming.{Incoming}
 use Rattle.trace_rules.specs.Parts.{Part, is_message, is_whole}
 use Rattle.homa_plain.specs.Rows.{ClientRow, ServerRow, State, Receiving, Held, Replying, Buried}
 use Rattle.homa_plain.specs.Timers.{Place, OfClient, OfServer}
-use Rattle.homa_plain.specs.Steps.{Work}
+use Rattle.homa_plain.specs.Work.{Work}
 use Rattle.trace_rules.specs.View.{View, Called, has_run}
 use Rattle.homa_plain.specs.World.{World}
 use Rattle.step_laws.specs.StepLaws.{HasOwnOrders}

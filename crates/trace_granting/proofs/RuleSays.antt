@@ -13,16 +13,18 @@ use Rattle.homa_plain.specs.declared.settings.Settings.{Settings}
 use Rattle.homa_plain.specs.Calls.{is_host}
 use Rattle.homa_plain.specs.Incoming.{Incoming, with_bytes, is_whole, leaves_too_many_gaps, first_gap}
 use Rattle.homa_plain.specs.Incoming as incoming
-use Rattle.homa_plain.specs.Outgoing.{Answer as ResendAnswer, Busy, Queued, resend}
+use Rattle.homa_plain.specs.Busy.{Answer as ResendAnswer, Busy, Queued, resend}
 use Rattle.homa_plain.specs.Packets.{Packet, sender}
 use Rattle.homa_plain.specs.Rows.{ClientRow, ServerRow, State, Receiving, Held, Replying, Buried}
 use Rattle.homa_plain.specs.Host.{Host, pages_for, Told, Says, Sends, packets_in, Tuned, tuned, is_balance_due, counted, finished_at}
 use Rattle.homa_plain.specs.Rules.{Moment, Answer, Piece, Say, Tells, Posts, Did, leaves, keeps, opening, version_of}
-use Rattle.homa_plain.specs.AtClient.{busy_for, response_piece, answered, unasked, client_gets, renewed, refreshed}
+use Rattle.homa_plain.specs.Busy.{busy_for}
+use Rattle.homa_plain.specs.AtClient.{response_piece, answered, unasked, client_gets, renewed, refreshed}
 use Rattle.homa_plain.specs.AtClient as client
-use Rattle.homa_plain.specs.AtServer.{runs, piece_comes, opens, piece_of, unknown_gets, row_gets, server_gets, state_acked, server_acked}
+use Rattle.homa_plain.specs.AtServer.{runs, piece_comes, opens, piece_of, unknown_gets, row_gets, server_gets}
+use Rattle.homa_plain.specs.Tombstones.{state_acked, server_acked}
 use Rattle.homa_plain.specs.Timers.{resend_of, wanted, client_acts, state_acts, server_acts}
-use Rattle.homa_plain.specs.Steps.{Work, said}
+use Rattle.homa_plain.specs.Work.{Work, said}
 use Rattle.step_laws.proofs.Places.{all-append}
 use Rattle.step_moves.proofs.Moves.{notes_told, reply_told, acknowledged_told, finishes_told, served_put, served_noted, served_told, served_packets}
 use Rattle.step_moves.proofs.AskedMove.{asked_put, asked_noted, asked_said, asked_told, asked_packets}

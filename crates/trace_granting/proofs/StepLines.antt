@@ -13,7 +13,10 @@ use Rattle.homa_plain.specs.Rows.{ClientRow, ServerRow, RowsOf, set_row}
 use Rattle.homa_plain.specs.Host.{Host, Told, packets_in, entries_from}
 use Rattle.homa_plain.specs.Rules.{Answer, Did}
 use Rattle.homa_plain.specs.Timers.{Place, OfClient, OfServer, client_acts, server_acts}
-use Rattle.homa_plain.specs.Steps.{Work, begun, now_of, moment, asked, served, hears_cutoffs, comes_to_row, takes, is_stale, comes, client_acted}
+use Rattle.homa_plain.specs.Work.{Work, begun, now_of}
+use Rattle.homa_plain.specs.Steps.{moment, asked, served, comes_to_row, takes, comes, client_acted}
+use Rattle.homa_plain.specs.CutoffsPackets.{hears_cutoffs}
+use Rattle.homa_plain.specs.OldPackets.{is_stale}
 use Rattle.homa_plain.specs.Steps.{server_acted, acts_at, acts, next_id, new_call, starts}
 use Rattle.trace_rules.specs.View.{View}
 use Rattle.trace_rules.specs.Seen.{seen}

@@ -21,7 +21,9 @@ use Rattle.homa_plain.specs.Rules.{Answer, Did}
 use Rattle.homa_plain.specs.AtClient.{client_gets}
 use Rattle.homa_plain.specs.AtServer.{server_gets}
 use Rattle.homa_plain.specs.Timers.{Place, OfClient, OfServer}
-use Rattle.homa_plain.specs.Steps.{Work, begun, moment, served, asked, hears_cutoffs, comes_to_row, takes}
+use Rattle.homa_plain.specs.Work.{Work, begun}
+use Rattle.homa_plain.specs.Steps.{moment, served, asked, comes_to_row, takes}
+use Rattle.homa_plain.specs.CutoffsPackets.{hears_cutoffs}
 use Rattle.trace_rules.specs.View.{View, Called, has_run, counts}
 use Rattle.trace_rules.specs.Seen.{seen}
 use Rattle.trace_rules.specs.Seen as lines

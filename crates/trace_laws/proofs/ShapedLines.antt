@@ -19,7 +19,8 @@ use Rattle.trace_rules.specs.Lines.{is_last, named}
 use Rattle.homa_plain.specs.Packets.{Packet, send_line}
 use Rattle.homa_plain.specs.Host.{Host, Told, Says, Sends, packets_in, entries_from, Tuned, tuned, is_balance_due, counted, finished_at}
 use Rattle.homa_plain.specs.Rules.{Say, Tells, Posts}
-use Rattle.homa_plain.specs.Steps.{Work, said, start_fault}
+use Rattle.homa_plain.specs.Work.{Work, said}
+use Rattle.homa_plain.specs.Steps.{start_fault}
 use Rattle.trace_rules.specs.View.{View, Called}
 use Rattle.trace_rules.specs.Seen.{seen, seen_all}
 use Rattle.trace_rules.specs.Shape.{IsBehind, IsMade, Shape}

@@ -15,10 +15,13 @@ use Rattle.homa_plain.specs.Packets.{Packet, sender, receiver, receiver_of, acks
 use Rattle.homa_plain.specs.Rows.{ClientRow, ServerRow, RowsOf, set_row}
 use Rattle.homa_plain.specs.Host.{Told, Says, packets_in, entries_from, peer_cutoffs}
 use Rattle.homa_plain.specs.Rules.{Moment, Answer, Did}
-use Rattle.homa_plain.specs.AtServer.{server_acked}
+use Rattle.homa_plain.specs.Tombstones.{server_acked}
 use Rattle.homa_plain.specs.Sending.{response_content}
 use Rattle.homa_plain.specs.Timers.{Place, OfClient, OfServer, server_deadline, state_deadline, client_acts, server_acts}
-use Rattle.homa_plain.specs.Steps.{Work, now_of, tells, moment, served, asked, said, hears_cutoffs, comes_to_row, acked, takes, is_stale, comes}
+use Rattle.homa_plain.specs.Work.{Work, now_of, tells, said}
+use Rattle.homa_plain.specs.Steps.{moment, served, asked, comes_to_row, acked, takes, comes}
+use Rattle.homa_plain.specs.CutoffsPackets.{hears_cutoffs}
+use Rattle.homa_plain.specs.OldPackets.{is_stale}
 use Rattle.homa_plain.specs.Steps.{client_acted, server_acted, acts_at, acts, ended}
 use Rattle.trace_rules.specs.View.{View}
 use Rattle.trace_rules.specs.Laws.{Holds}

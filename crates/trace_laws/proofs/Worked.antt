@@ -19,7 +19,8 @@ use Rattle.homa_plain.specs.Entries.{PlainEntry, PlainSettings, PlainCall, Plain
 use Rattle.homa_plain.specs.Script.{opening, opening_from, steps_from, phrase_in, bytes_of_word, most_bytes}
 use Rattle.homa_plain.specs.Host.{tuned}
 use Rattle.homa_plain.specs.Timers.{client_deadline, server_deadline}
-use Rattle.homa_plain.specs.Steps.{asked, served, takes, pumped_once, pumps, start_fault, call_step, arrival_step, turn_step}
+use Rattle.homa_plain.specs.Steps.{asked, served, takes, start_fault, call_step, arrival_step, turn_step}
+use Rattle.homa_plain.specs.SentNext.{pumped_once, pumps}
 use Rattle.homa_plain.specs.World.{new_world, outcome}
 use Rattle.homa_plain.specs.Replay.{bare, carried, replayed, replay, lines}
 use Rattle.trace_rules.specs.Judge.{ShapeClause, judged, first_broken}

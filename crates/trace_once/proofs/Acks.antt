@@ -17,7 +17,9 @@ use Rattle.homa_plain.specs.Host.{finished_at, pages_for}
 use Rattle.homa_plain.specs.Rules.{Moment, Piece, Did, keeps, opening}
 use Rattle.homa_plain.specs.AtClient.{piece_comes, response_piece, answered, unasked, client_gets, renewed, refreshed}
 use Rattle.homa_plain.specs.Timers.{client_acts}
-use Rattle.homa_plain.specs.Steps.{Work, acknowledged, finishes, asked, oldest}
+use Rattle.homa_plain.specs.Work.{Work}
+use Rattle.homa_plain.specs.FiveAcks.{acknowledged, finishes, oldest}
+use Rattle.homa_plain.specs.Steps.{asked}
 use Rattle.trace_steps.specs.Stands.{Stand}
 use Rattle.step_moves.proofs.AskedMove.{asked_said, said-finished}
 use Rattle.trace_once.specs.Lifetime.{Times, ReplyFits}

@@ -8,7 +8,8 @@ use Rattle.homa_plain.specs.Host.{peer_cutoffs}
 use Rattle.homa_plain.specs.Rules.{Moment}
 use Rattle.homa_plain.specs.Timers.{Place, OfClient, OfServer, server_deadline, state_deadline, client_acts, server_acts}
 use Rattle.homa_plain.specs.Sending.{response_content}
-use Rattle.homa_plain.specs.Steps.{Work, now_of, moment, client_acted, server_acted, acts_at, acts, ended}
+use Rattle.homa_plain.specs.Work.{Work, now_of}
+use Rattle.homa_plain.specs.Steps.{moment, client_acted, server_acted, acts_at, acts, ended}
 use Rattle.trace_rules.specs.View.{View}
 use Rattle.homa_plain.specs.World.{World}
 use Rattle.trace_steps.specs.Stands.{state_of, amid}

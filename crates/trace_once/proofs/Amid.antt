@@ -9,7 +9,7 @@ use Rattle.homa_plain.specs.declared.settings.Settings.{Settings}
 use Rattle.homa_plain.specs.Calls.{is_host}
 use Rattle.homa_plain.specs.Rows.{ClientRow, ServerRow, RowsOf}
 use Rattle.homa_plain.specs.Host.{Host, Told, packets_in, entries_from, finished_at}
-use Rattle.homa_plain.specs.Steps.{Work}
+use Rattle.homa_plain.specs.Work.{Work}
 use Rattle.trace_rules.specs.View.{View}
 use Rattle.trace_rules.specs.Laws.{Holds, Once}
 use Rattle.homa_plain.specs.World.{World, stamped}

@@ -14,7 +14,8 @@ use Rattle.homa_plain.specs.Packets.{Packet, acks_in}
 use Rattle.homa_plain.specs.Rows.{ClientRow, set_row}
 use Rattle.homa_plain.specs.Host.{Told, packets_in, finished_at}
 use Rattle.homa_plain.specs.Rules.{Say, Tells, Posts, Did}
-use Rattle.homa_plain.specs.Steps.{Work, said, asked}
+use Rattle.homa_plain.specs.Work.{Work, said}
+use Rattle.homa_plain.specs.Steps.{asked}
 use Rattle.trace_rules.specs.View.{View}
 use Rattle.homa_plain.specs.World.{World, stamped}
 use Rattle.homa_plain.proofs.CallOrder.{calls_are}

@@ -8,7 +8,7 @@ use Rattle.homa_plain.specs.declared.id.HostId.{HostId}
 use Rattle.homa_plain.specs.declared.settings.Settings.{Settings}
 use Rattle.homa_plain.specs.Rows.{ClientRow, RowsOf}
 use Rattle.homa_plain.specs.Host.{Host, finished_at}
-use Rattle.homa_plain.specs.Steps.{refilled}
+use Rattle.homa_plain.specs.Credit.{refilled}
 use Rattle.std.proofs.lemmas.Bool.{cond_both}
 use Rattle.trace_rules.specs.View.{View}
 use Rattle.homa_plain.specs.World.{World, host_at}

@@ -12,7 +12,8 @@ use Rattle.homa_plain.specs.Calls.{is_call}
 use Rattle.homa_plain.specs.Entries.{PlainCall}
 use Rattle.homa_plain.specs.Rows.{ClientRow}
 use Rattle.homa_plain.specs.Host.{Host, finished_at}
-use Rattle.homa_plain.specs.Steps.{Work, begun, next_id, new_call, starts}
+use Rattle.homa_plain.specs.Work.{Work, begun}
+use Rattle.homa_plain.specs.Steps.{next_id, new_call, starts}
 use Rattle.trace_rules.specs.View.{View}
 use Rattle.trace_rules.specs.Seen.{seen}
 use Rattle.homa_plain.specs.World.{World}

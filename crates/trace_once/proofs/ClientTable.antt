@@ -12,13 +12,15 @@ use Rattle.homa_plain.specs.declared.settings.Settings.{Settings}
 use Rattle.homa_plain.specs.Calls.{is_host}
 use Rattle.homa_plain.specs.Incoming.{Incoming, with_bytes, is_whole, leaves_too_many_gaps}
 use Rattle.homa_plain.specs.Incoming as incoming
-use Rattle.homa_plain.specs.Outgoing.{Outgoing, Answer, Busy, Queued, grant, resend, restart, is_busy}
+use Rattle.homa_plain.specs.Outgoing.{Outgoing, grant, restart}
+use Rattle.homa_plain.specs.Busy.{Answer, Busy, Queued, resend, is_busy}
 use Rattle.homa_plain.specs.Outgoing as outgoing
 use Rattle.homa_plain.specs.Packets.{Packet, sender, sender_of}
 use Rattle.homa_plain.specs.Rows.{ClientRow}
 use Rattle.homa_plain.specs.Host.{pages_for}
 use Rattle.homa_plain.specs.Rules.{Moment, Piece, Say, Posts, Did, keeps, says, opening, version_of}
-use Rattle.homa_plain.specs.AtClient.{renewed, refreshed, with_part, busy_for, piece_added, piece_comes, response_piece, started_over, answered}
+use Rattle.homa_plain.specs.AtClient.{renewed, refreshed, with_part, piece_added, piece_comes, response_piece, started_over, answered}
+use Rattle.homa_plain.specs.Busy.{busy_for}
 use Rattle.homa_plain.specs.AtClient.{unasked, client_gets}
 use Rattle.homa_plain.proofs.CallOrder.{hosts_are}
 use Rattle.homa_plain.proofs.OutgoingLaws as out_laws
@@ -27,6 +29,7 @@ use Rattle.trace_once.specs.Lifetime.{Times, CoversReply, ReplyFits, Fits, Lifet
 use Rattle.step_moves.proofs.Hosts.{none_some, some_is}
 use Rattle.trace_once.proofs.ClientRules.{AllBare, IsLike, ClientChange, ClientKeeps, gone_change, like_change, as_change, heard_change, IsSame}
 use Rattle.trace_once.proofs.ClientRules.{same_row, like_same, like_itself, change_same}
+use Rattle.homa_plain.specs.Busy as busy
 
 -- ---- the request
 
@@ -35,7 +38,7 @@ grant_top p offset prio = cond_both (nat_lt p.granted _) _ _ (λ (o : Outgoing).
 
 resend_top : (p : Outgoing) (a b prio : ℕ) → ((resend p a b prio).part.top ≡ p.top) × ((resend p a b prio).part.length ≡ p.length)
 resend_top p a b prio =
-    cond_both (is_busy p a _) _ _ (λ (o : outgoing.Resent). (o.part.top ≡ p.top) × (o.part.length ≡ p.length)) (λ _. (refl, refl)) (λ _. (refl, refl))
+    cond_both (is_busy p a _) _ _ (λ (o : busy.Resent). (o.part.top ≡ p.top) × (o.part.length ≡ p.length)) (λ _. (refl, refl)) (λ _. (refl, refl))
 
 busy_bare : (o : Option ClientRow) (a : Answer) → AllBare o (busy_for a)
 busy_bare o Busy = (tt, tt)

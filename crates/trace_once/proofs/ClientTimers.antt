@@ -18,7 +18,8 @@ use Rattle.homa_plain.specs.Outgoing as outgoing
 use Rattle.homa_plain.specs.Rows.{ClientRow}
 use Rattle.homa_plain.specs.Rules.{Moment}
 use Rattle.homa_plain.specs.Timers.{resend_of, wanted, client_acts}
-use Rattle.homa_plain.specs.Sending.{may_send_request, while_new, client_sends, client_granted, slice}
+use Rattle.homa_plain.specs.SentNext.{may_send_request}
+use Rattle.homa_plain.specs.Sending.{while_new, client_sends, client_granted, slice}
 use Rattle.homa_plain.proofs.OutgoingLaws as out_laws
 use Rattle.trace_steps.specs.Stands.{Stand, with_client}
 use Rattle.trace_once.specs.Lifetime.{times, CoversRequest, IsMadeTo, Fits, called_by, Lifetime}

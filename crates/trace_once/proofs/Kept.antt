@@ -15,7 +15,9 @@ use Rattle.homa_plain.specs.Rows.{ClientRow, RowsOf}
 use Rattle.homa_plain.specs.Packets.{receiver}
 use Rattle.homa_plain.specs.Host.{Host, entries_from}
 use Rattle.homa_plain.specs.Rules.{Answer}
-use Rattle.homa_plain.specs.Steps.{Work, begun, starts, call_step, arrival_step, turn_step, refilled, acts, comes, ended}
+use Rattle.homa_plain.specs.Work.{Work, begun}
+use Rattle.homa_plain.specs.Steps.{starts, call_step, arrival_step, turn_step, acts, comes, ended}
+use Rattle.homa_plain.specs.Credit.{refilled}
 use Rattle.homa_plain.specs.Wire.{packet_in}
 use Rattle.homa_plain.specs.World.{World, SentPacket, After, Done, outcome, host_at, own_clock, next_answer, is_late}
 use Rattle.trace_rules.specs.View.{View}

@@ -11,7 +11,7 @@ use Rattle.homa_plain.specs.Entries.{PlainEntry, PlainRun, PlainDone, PlainFail,
 use Rattle.homa_plain.specs.Packets.{send_line}
 use Rattle.homa_plain.specs.Host.{Host, Told, Says, Sends, packets_in, entries_from}
 use Rattle.homa_plain.specs.Rules.{Say, Tells, Posts}
-use Rattle.homa_plain.specs.Steps.{said, packet_from, bare}
+use Rattle.homa_plain.specs.Work.{said, packet_from, bare}
 use Rattle.trace_rules.specs.View.{View, Called, has_run}
 use Rattle.trace_rules.specs.Seen.{seen, seen_all}
 use Rattle.trace_rules.specs.Laws.{Holds, Once}

@@ -17,8 +17,12 @@ use Rattle.homa_plain.specs.Outgoing.{Outgoing, next_range}
 use Rattle.homa_plain.specs.Packets.{Packet, acks_in}
 use Rattle.homa_plain.specs.Rows.{ClientRow, ServerRow, State, Receiving, Replying, set_row}
 use Rattle.homa_plain.specs.Host.{Sends, finished_at, peer_cutoffs}
-use Rattle.homa_plain.specs.Sending.{Content, client_granted, server_granted, state_granted, client_sends, state_sends, request_content, may_send_request}
-use Rattle.homa_plain.specs.Steps.{Work, now_of, bare, packet_from, client_is_granted, server_is_granted, request_leaves, response_leaves, oldest}
+use Rattle.homa_plain.specs.Sending.{Content, client_granted, server_granted, state_granted, client_sends, state_sends, request_content}
+use Rattle.homa_plain.specs.SentNext.{may_send_request}
+use Rattle.homa_plain.specs.Work.{Work, now_of, bare, packet_from}
+use Rattle.homa_plain.specs.Steps.{client_is_granted, server_is_granted}
+use Rattle.homa_plain.specs.SentNext.{request_leaves, response_leaves}
+use Rattle.homa_plain.specs.FiveAcks.{oldest}
 use Rattle.trace_rules.specs.View.{View}
 use Rattle.homa_plain.specs.World.{World}
 use Rattle.homa_plain.proofs.CallOrder.{calls_are, hosts_are}

@@ -13,7 +13,8 @@ use Rattle.homa_plain.specs.Packets.{Packet}
 use Rattle.homa_plain.specs.Rows.{ServerRow, set_row}
 use Rattle.homa_plain.specs.Host.{Told, Says, Sends, packets_in, entries_from}
 use Rattle.homa_plain.specs.Rules.{Say, Tells, Posts, Did}
-use Rattle.homa_plain.specs.Steps.{Work, said, served}
+use Rattle.homa_plain.specs.Work.{Work, said}
+use Rattle.homa_plain.specs.Steps.{served}
 use Rattle.trace_rules.specs.View.{View}
 use Rattle.trace_rules.specs.Seen.{seen_all}
 use Rattle.trace_rules.specs.Laws.{Holds, Once}

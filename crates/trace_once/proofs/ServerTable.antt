@@ -19,13 +19,14 @@ use Rattle.homa_plain.specs.declared.settings.Settings.{Settings}
 use Rattle.homa_plain.specs.Entries.{PlainEntry}
 use Rattle.homa_plain.specs.Incoming.{Incoming, arrived, with_bytes, is_whole, leaves_too_many_gaps, message}
 use Rattle.homa_plain.specs.Incoming as incoming
-use Rattle.homa_plain.specs.Outgoing.{Outgoing, Answer as ResendAnswer, Busy, Queued, grant, resend}
+use Rattle.homa_plain.specs.Outgoing.{Outgoing, grant}
+use Rattle.homa_plain.specs.Busy.{Answer as ResendAnswer, Busy, Queued, resend}
 use Rattle.homa_plain.specs.Outgoing as outgoing
 use Rattle.homa_plain.specs.Packets.{Packet}
 use Rattle.homa_plain.specs.Rows.{ServerRow, State, Receiving, Held, Replying, Buried}
 use Rattle.homa_plain.specs.Host.{pages_for}
 use Rattle.homa_plain.specs.Rules.{Moment, Answer, Piece, Say, Tells, Posts, Did, leaves, opening, says, version_of}
-use Rattle.homa_plain.specs.AtClient.{busy_for}
+use Rattle.homa_plain.specs.Busy.{busy_for}
 use Rattle.homa_plain.specs.AtServer.{with_state, runs, piece_added, piece_comes, opens, piece_of, unknown_gets, receiving_gets, held_gets, touched}
 use Rattle.homa_plain.specs.AtServer.{replying_gets, buried_gets, row_gets, server_gets}
 use Rattle.trace_rules.specs.View.{Called}

@@ -16,7 +16,8 @@ use Rattle.homa_plain.specs.Outgoing.{Outgoing}
 use Rattle.homa_plain.specs.Outgoing as outgoing
 use Rattle.homa_plain.specs.Rows.{ServerRow, State, Receiving, Held, Replying, Buried}
 use Rattle.homa_plain.specs.Rules.{Moment, Posts, leaves}
-use Rattle.homa_plain.specs.AtServer.{with_state, replying, buried, state_acked, server_acked}
+use Rattle.homa_plain.specs.AtServer.{with_state, replying}
+use Rattle.homa_plain.specs.Tombstones.{buried, state_acked, server_acked}
 use Rattle.homa_plain.specs.Timers.{state_deadline, resend_of, state_acts, server_acts}
 use Rattle.homa_plain.specs.Sending.{state_granted, state_sends}
 use Rattle.homa_plain.proofs.OutgoingLaws as out_laws
@@ -27,6 +28,7 @@ use Rattle.step_moves.proofs.Hosts.{none_some, some_is}
 use Rattle.trace_once.proofs.Later.{made_at, part_at}
 use Rattle.trace_once.proofs.ServerRules.{SaysFit, IsSafeExpiry, ServerChange, ServerKeeps, row_made, row_is, live_change, quiet_keeps}
 use Rattle.trace_once.proofs.ServerRules.{same_keeps, row_keeps, live_covers, says_live, part_now}
+use Rattle.homa_plain.specs.OutgoingChanges as changes
 
 -- a host's own clock in its step: it is within the band, and the host's last tick
 pub record IsNow (c : Settings) (v : Stand) (now : ℕ) : Type 0 where
@@ -179,7 +181,7 @@ module _ (c : Settings) (h : HostId) (v : Stand) where
       let state : State = state_sends c now (Replying response out order base count) in
       let made = row_made (times c) h v _ k at in
       let r = row_is (times c) h v (Some (Replying response out order base count)) k at in
-      sends_live (Some state) (body.Data size offset version service None) payload made (r.0, out_laws.sound-changed out (outgoing.Send c.seg) r.1) k.sent refl
+      sends_live (Some state) (body.Data size offset version service None) payload made (r.0, out_laws.sound-changed out (changes.Send c.seg) r.1) k.sent refl
       (record {
         past = omega arith;
         made = made_at h v (with_server v (Some state) v.ran) refl made;

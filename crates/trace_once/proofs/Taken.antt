@@ -14,8 +14,12 @@ use Rattle.homa_plain.specs.Rows.{ClientRow, ServerRow}
 use Rattle.homa_plain.specs.Host.{Told, Says, packets_in}
 use Rattle.homa_plain.specs.Rules.{Moment, Answer, Did}
 use Rattle.homa_plain.specs.AtClient.{client_gets}
-use Rattle.homa_plain.specs.AtServer.{server_gets, server_acked}
-use Rattle.homa_plain.specs.Steps.{Work, now_of, tells, served, asked, moment, hears_cutoffs, comes_to_row, acked, takes, is_stale, comes}
+use Rattle.homa_plain.specs.AtServer.{server_gets}
+use Rattle.homa_plain.specs.Tombstones.{server_acked}
+use Rattle.homa_plain.specs.Work.{Work, now_of, tells}
+use Rattle.homa_plain.specs.Steps.{served, asked, moment, comes_to_row, acked, takes, comes}
+use Rattle.homa_plain.specs.CutoffsPackets.{hears_cutoffs}
+use Rattle.homa_plain.specs.OldPackets.{is_stale}
 use Rattle.trace_rules.specs.View.{View}
 use Rattle.homa_plain.specs.World.{World, stamped}
 use Rattle.trace_steps.specs.Stands.{said_so_far, amid}

@@ -18,7 +18,8 @@ use Rattle.trace_steps.proofs.Progress.{IsLevel}
 use Rattle.homa_plain.specs.Rows.{ClientRow, ServerRow, set_row}
 use Rattle.homa_plain.specs.Host.{Sends, packets_in, entries_from}
 use Rattle.homa_plain.specs.Rules.{Say, Tells, Did}
-use Rattle.homa_plain.specs.Steps.{Work, said, served, asked}
+use Rattle.homa_plain.specs.Work.{Work, said}
+use Rattle.homa_plain.specs.Steps.{served, asked}
 use Rattle.trace_rules.specs.View.{View, Called, is_server_of}
 use Rattle.trace_rules.specs.Seen.{seen, seen_all}
 use Rattle.homa_plain.specs.World.{World}

@@ -15,7 +15,8 @@ use Rattle.homa_plain.specs.Entries.{PlainEntry, PlainSettings, PlainCall, Plain
 use Rattle.homa_plain.specs.Rows.{ClientRow, State, RowsOf}
 use Rattle.homa_plain.specs.Host.{Host}
 use Rattle.homa_plain.specs.Rules.{Answer}
-use Rattle.homa_plain.specs.Steps.{Work, begun, starts, next_id, new_call}
+use Rattle.homa_plain.specs.Work.{Work, begun}
+use Rattle.homa_plain.specs.Steps.{starts, next_id, new_call}
 use Rattle.trace_rules.specs.View.{View, Progress, Called, no_ends, at_start}
 use Rattle.trace_rules.specs.Seen.{seen}
 use Rattle.trace_rules.specs.Laws.{Once, SameCalls}

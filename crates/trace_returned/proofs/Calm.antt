@@ -23,7 +23,7 @@ use Rattle.homa_plain.specs.Entries.{PlainStale, PlainSend}
 use Rattle.homa_plain.specs.Packets.{Packet, send_line}
 use Rattle.homa_plain.specs.Host.{Host, Told, Says, Sends, packets_in, entries_from, Tuned, tuned, is_balance_due, counted, finished_at}
 use Rattle.homa_plain.specs.Rules.{Say, Tells, Posts}
-use Rattle.homa_plain.specs.Steps.{Work, said, packet_from, bare}
+use Rattle.homa_plain.specs.Work.{Work, said, packet_from, bare}
 use Rattle.homa_plain.specs.Wire.{is_client, is_server}
 use Rattle.trace_rules.specs.View.{View, Progress, Sent, Ran, Ends, life, sent_last, is_server_of}
 use Rattle.trace_rules.specs.Seen.{seen, seen_all, dropped}

@@ -25,7 +25,8 @@ use Rattle.homa_plain.specs.Host.{Told, packets_in, entries_from}
 use Rattle.homa_plain.specs.Rules.{Moment, Piece, Say, Tells, Did, keeps}
 use Rattle.homa_plain.specs.AtClient.{client_gets, answered, response_piece, refreshed, renewed}
 use Rattle.homa_plain.specs.AtServer.{piece_of}
-use Rattle.homa_plain.specs.Steps.{Work, said, moment, asked}
+use Rattle.homa_plain.specs.Work.{Work, said}
+use Rattle.homa_plain.specs.Steps.{moment, asked}
 use Rattle.trace_rules.specs.View.{View, Progress, Sent, Called, Ends, no_ends, counts, is_server_of}
 use Rattle.homa_plain.specs.Wire.{is_server}
 use Rattle.trace_rules.specs.Seen.{seen, is_forgotten}

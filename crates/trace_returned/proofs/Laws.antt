@@ -16,7 +16,9 @@ use Rattle.trace_rules.specs.Lines.{is_last}
 use Rattle.homa_plain.specs.Packets.{receiver}
 use Rattle.homa_plain.specs.Host.{Host, new_host, entries_from}
 use Rattle.homa_plain.specs.Rules.{Answer}
-use Rattle.homa_plain.specs.Steps.{Work, begun, starts, comes, acts, refilled, ended, call_step, arrival_step, turn_step}
+use Rattle.homa_plain.specs.Work.{Work, begun}
+use Rattle.homa_plain.specs.Steps.{starts, comes, acts, ended, call_step, arrival_step, turn_step}
+use Rattle.homa_plain.specs.Credit.{refilled}
 use Rattle.homa_plain.specs.Wire.{packet_in}
 use Rattle.trace_rules.specs.View.{View, Sent, at_start}
 use Rattle.trace_rules.specs.Seen.{seen, seen_all}

@@ -19,7 +19,8 @@ use Rattle.trace_rules.specs.Parts as parts
 use Rattle.homa_plain.specs.Rows.{ServerRow}
 use Rattle.homa_plain.specs.Host.{Told, packets_in, entries_from, Tuned, tuned, is_balance_due, counted}
 use Rattle.homa_plain.specs.Rules.{Answer, Say, Tells, Did}
-use Rattle.homa_plain.specs.Steps.{Work, said, served}
+use Rattle.homa_plain.specs.Work.{Work, said}
+use Rattle.homa_plain.specs.Steps.{served}
 use Rattle.trace_rules.specs.View.{View, Progress, Sent, Called, Ends, no_ends, life}
 use Rattle.trace_rules.specs.View.{Ran as RanLine}
 use Rattle.trace_rules.specs.Laws.{Holds, Once}

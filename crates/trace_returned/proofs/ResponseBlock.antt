@@ -15,7 +15,8 @@ use Rattle.trace_rules.specs.Parts as parts
 use Rattle.homa_plain.specs.Rows.{ClientRow}
 use Rattle.homa_plain.specs.Host.{packets_in, entries_from}
 use Rattle.homa_plain.specs.Rules.{Say, Tells, Did}
-use Rattle.homa_plain.specs.Steps.{Work, said, asked}
+use Rattle.homa_plain.specs.Work.{Work, said}
+use Rattle.homa_plain.specs.Steps.{asked}
 use Rattle.trace_rules.specs.View.{View, Progress, Sent, Ends, no_ends}
 use Rattle.trace_rules.specs.Laws.{Holds, Once}
 use Rattle.trace_rules.specs.Seen.{seen, seen_all, is_delivery_to}

@@ -14,7 +14,8 @@ use Rattle.homa_plain.specs.Packets.{send_line}
 use Rattle.homa_plain.specs.Rows.{ClientRow, ServerRow, RowsOf, set_row}
 use Rattle.homa_plain.specs.Host.{Host, Told, Says, Sends, packets_in, entries_from}
 use Rattle.homa_plain.specs.Rules.{Say, Tells, Posts, Did}
-use Rattle.homa_plain.specs.Steps.{Work, said, served, asked}
+use Rattle.homa_plain.specs.Work.{Work, said}
+use Rattle.homa_plain.specs.Steps.{served, asked}
 use Rattle.trace_rules.specs.View.{View, Called}
 use Rattle.trace_rules.specs.Seen.{seen, seen_all}
 use Rattle.trace_rules.specs.Laws.{Holds, Returned}

@@ -19,7 +19,9 @@ use Rattle.homa_plain.specs.Packets.{Packet, sender, receiver, send_line}
 use Rattle.homa_plain.specs.Rows.{ClientRow, ServerRow, State, Receiving, Replying}
 use Rattle.homa_plain.specs.Host.{Host, Sends, packets_in, peer_cutoffs}
 use Rattle.homa_plain.specs.Sending.{Content, client_granted, granted_part, server_granted, state_granted, client_sends, state_sends, response_content}
-use Rattle.homa_plain.specs.Steps.{Work, now_of, client_is_granted, server_is_granted, request_leaves, response_leaves}
+use Rattle.homa_plain.specs.Work.{Work, now_of}
+use Rattle.homa_plain.specs.Steps.{client_is_granted, server_is_granted}
+use Rattle.homa_plain.specs.SentNext.{request_leaves, response_leaves}
 use Rattle.trace_rules.specs.View.{View, Called, Sent, life, incarnation}
 use Rattle.homa_plain.specs.World.{World}
 use Rattle.trace_steps.specs.Told.{HasLives, IsTold, sent_of}

@@ -20,7 +20,8 @@ use Rattle.trace_rules.specs.Parts as parts
 use Rattle.homa_plain.specs.Rows.{ServerRow, State, Receiving, Held, Replying, Buried}
 use Rattle.homa_plain.specs.Rules.{Moment, Answer, Did}
 use Rattle.homa_plain.specs.AtServer.{server_gets, row_gets, receiving_gets, unknown_gets, piece_of}
-use Rattle.homa_plain.specs.Steps.{Work, moment, served}
+use Rattle.homa_plain.specs.Work.{Work}
+use Rattle.homa_plain.specs.Steps.{moment, served}
 use Rattle.trace_rules.specs.View.{View, Progress, Called, Ends, no_ends, has_run}
 use Rattle.trace_rules.specs.Seen.{seen}
 use Rattle.homa_plain.specs.World.{World}

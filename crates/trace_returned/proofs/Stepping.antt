@@ -15,10 +15,13 @@ use Rattle.homa_plain.specs.Packets.{Packet, sender, receiver_of, receiver, acks
 use Rattle.homa_plain.specs.Rows.{ClientRow, ServerRow, RowsOf}
 use Rattle.homa_plain.specs.Host.{Told, Says, Sends, packets_in, peer_cutoffs}
 use Rattle.homa_plain.specs.Rules.{Moment, Answer, Did}
-use Rattle.homa_plain.specs.AtServer.{server_acked}
+use Rattle.homa_plain.specs.Tombstones.{server_acked}
 use Rattle.homa_plain.specs.Sending.{response_content}
 use Rattle.homa_plain.specs.Timers.{Place, OfClient, OfServer, server_deadline, state_deadline, client_acts, server_acts}
-use Rattle.homa_plain.specs.Steps.{Work, now_of, tells, moment, served, hears_cutoffs, comes_to_row, acked, takes, is_stale, comes, client_acted}
+use Rattle.homa_plain.specs.Work.{Work, now_of, tells}
+use Rattle.homa_plain.specs.Steps.{moment, served, comes_to_row, acked, takes, comes, client_acted}
+use Rattle.homa_plain.specs.CutoffsPackets.{hears_cutoffs}
+use Rattle.homa_plain.specs.OldPackets.{is_stale}
 use Rattle.homa_plain.specs.Steps.{server_acted, acts_at, acts, ended}
 use Rattle.trace_rules.specs.View.{View, Progress, Sent, Called, no_ends}
 use Rattle.trace_rules.specs.Seen.{seen, seen_all, begun, delivery, delivered, stale}

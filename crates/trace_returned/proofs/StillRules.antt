@@ -11,16 +11,19 @@ use Rattle.homa_plain.specs.declared.packet.Body.TheVariants as body
 use Rattle.homa_plain.specs.declared.settings.Settings.{Settings}
 use Rattle.homa_plain.specs.Entries.{PlainBury, PlainFree, PlainDrop, PlainFail}
 use Rattle.homa_plain.specs.Incoming.{Incoming, first_gap}
-use Rattle.homa_plain.specs.Outgoing.{Outgoing, Answer as ResendAnswer, Busy, Queued, grant, resend, is_busy}
-use Rattle.homa_plain.specs.Outgoing as outgoing
+use Rattle.homa_plain.specs.Outgoing.{Outgoing, grant}
+use Rattle.homa_plain.specs.Busy.{Answer as ResendAnswer, Busy, Queued, resend, is_busy}
 use Rattle.homa_plain.specs.Rows.{ClientRow, ServerRow, State, Receiving, Held, Replying, Buried}
 use Rattle.homa_plain.specs.Rules.{Moment, Answer, Say, Tells, Posts, Did}
-use Rattle.homa_plain.specs.AtClient.{busy_for, unasked, started_over, answered, refreshed}
-use Rattle.homa_plain.specs.AtServer.{unknown_gets, receiving_gets, held_gets, replying_gets, buried_gets, state_acked, server_acked}
+use Rattle.homa_plain.specs.Busy.{busy_for}
+use Rattle.homa_plain.specs.AtClient.{unasked, started_over, answered, refreshed}
+use Rattle.homa_plain.specs.AtServer.{unknown_gets, receiving_gets, held_gets, replying_gets, buried_gets}
+use Rattle.homa_plain.specs.Tombstones.{state_acked, server_acked}
 use Rattle.homa_plain.specs.Timers.{resend_of, wanted, client_acts, state_acts, server_acts}
 use Rattle.trace_steps.specs.Stands.{state_of}
 use Rattle.trace_steps.specs.Contents.{Replies}
 use Rattle.trace_returned.specs.Tales.{receiving}
+use Rattle.homa_plain.specs.Busy as busy
 
 -- a packet that is no piece of a message and no GRANT
 abbrev pub IsCalmBody : Body → Type 0
@@ -60,7 +63,7 @@ grant_long : (p : Outgoing) (offset prio : ℕ) → (grant p offset prio).length
 grant_long p offset prio = cond_both (nat_lt p.granted _) _ _ (λ (o : Outgoing). o.length ≡ p.length) (λ _. refl) (λ _. refl)
 
 resend_long : (p : Outgoing) (a b prio : ℕ) → (resend p a b prio).part.length ≡ p.length
-resend_long p a b prio = cond_both (is_busy p a _) _ _ (λ (o : outgoing.Resent). o.part.length ≡ p.length) (λ _. refl) (λ _. refl)
+resend_long p a b prio = cond_both (is_busy p a _) _ _ (λ (o : busy.Resent). o.part.length ≡ p.length) (λ _. refl) (λ _. refl)
 
 module _ (s : Settings) (m : Moment) (id : CallId) where
   -- where no row stands

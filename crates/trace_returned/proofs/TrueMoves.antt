@@ -15,7 +15,8 @@ use Rattle.homa_plain.specs.Packets.{Packet}
 use Rattle.homa_plain.specs.Rows.{ClientRow, ServerRow, RowsOf, set_row}
 use Rattle.homa_plain.specs.Host.{Told, packets_in, entries_from}
 use Rattle.homa_plain.specs.Rules.{Did}
-use Rattle.homa_plain.specs.Steps.{Work, said, served, asked}
+use Rattle.homa_plain.specs.Work.{Work, said}
+use Rattle.homa_plain.specs.Steps.{served, asked}
 use Rattle.trace_rules.specs.View.{View}
 use Rattle.trace_rules.specs.Seen.{seen, seen_all}
 use Rattle.trace_rules.specs.Laws.{Holds, Once}

@@ -12,7 +12,8 @@ use Rattle.homa_plain.specs.Wire.{packet_in}
 use Rattle.homa_plain.specs.Entries.{PlainEntry, PlainDeliver, PlainClock, PlainRestart, PlainInject, PlainShift}
 use Rattle.homa_plain.specs.Packets.{receiver}
 use Rattle.homa_plain.specs.Host.{Host, new_host, packets_in, entries_from}
-use Rattle.homa_plain.specs.Steps.{Work, start_fault, call_step, arrival_step, turn_step}
+use Rattle.homa_plain.specs.Work.{Work}
+use Rattle.homa_plain.specs.Steps.{start_fault, call_step, arrival_step, turn_step}
 use Rattle.homa_plain.specs.World.{World, SentPacket, After, Refused, Done, host_at, own_clock, next_answer, answers_left, stamped, started}
 use Rattle.homa_plain.specs.World.{calls_from, call_outcome, arrives_at, is_late, delivered, last_tick, clock_outcome, turns, restarts, injected}
 use Rattle.homa_plain.specs.World.{shifted}

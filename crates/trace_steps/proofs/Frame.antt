@@ -9,7 +9,7 @@ use Rattle.homa_plain.specs.Calls.{is_host, is_call, call_cmp}
 use Rattle.homa_plain.specs.Packets.{Packet}
 use Rattle.homa_plain.specs.Rows.{ClientRow, ServerRow, RowsOf, set_row}
 use Rattle.homa_plain.specs.Host.{Told, packets_in, entries_from}
-use Rattle.homa_plain.specs.Steps.{Work}
+use Rattle.homa_plain.specs.Work.{Work}
 use Rattle.trace_rules.specs.View.{View, Called, has_run}
 use Rattle.trace_rules.specs.Seen.{seen_all}
 use Rattle.homa_plain.specs.World.{World, SentPacket, stamped}

@@ -12,7 +12,7 @@ use Rattle.homa_plain.specs.Entries.{PlainEntry, PlainRun, PlainDone, PlainFail,
 use Rattle.homa_plain.specs.Rows.{ClientRow, ServerRow}
 use Rattle.homa_plain.specs.Host.{Host, Told, Tuned, tuned, is_balance_due, counted, finished_at}
 use Rattle.homa_plain.specs.Rules.{Say, Tells, Posts, Did}
-use Rattle.homa_plain.specs.Steps.{Work, said}
+use Rattle.homa_plain.specs.Work.{Work, said}
 use Rattle.trace_steps.proofs.Runs.{is_run, runs_told, runs-append}
 use Rattle.step_laws.proofs.Own.{IsOwn, AllOwn, runs_said}
 use Rattle.step_moves.proofs.Moves.{notes_told, reply_told, acknowledged_told, finishes_told, served_put, served_noted, served_told}

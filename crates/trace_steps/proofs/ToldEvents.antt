@@ -20,7 +20,9 @@ use Rattle.homa_plain.specs.Packets.{Packet, receiver}
 use Rattle.homa_plain.specs.Rows.{ClientRow, RowsOf}
 use Rattle.homa_plain.specs.Host.{Host, new_host, entries_from}
 use Rattle.homa_plain.specs.Rules.{Answer}
-use Rattle.homa_plain.specs.Steps.{Work, begun, starts, next_id, new_call, comes, acts, refilled, call_step, arrival_step, turn_step}
+use Rattle.homa_plain.specs.Work.{Work, begun}
+use Rattle.homa_plain.specs.Steps.{starts, next_id, new_call, comes, acts, call_step, arrival_step, turn_step}
+use Rattle.homa_plain.specs.Credit.{refilled}
 use Rattle.trace_rules.specs.View.{View}
 use Rattle.trace_rules.specs.Seen.{seen, seen_all}
 use Rattle.homa_plain.specs.World.{World, SentPacket, After, Done, outcome, host_at, own_clock, next_answer}

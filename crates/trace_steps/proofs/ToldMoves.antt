@@ -13,7 +13,7 @@ use Rattle.homa_plain.specs.Calls.{is_host, is_call}
 use Rattle.homa_plain.specs.Packets.{Packet}
 use Rattle.homa_plain.specs.Rows.{ClientRow, ServerRow, RowsOf, set_row}
 use Rattle.homa_plain.specs.Host.{Host, Told, packets_in, entries_from}
-use Rattle.homa_plain.specs.Steps.{Work}
+use Rattle.homa_plain.specs.Work.{Work}
 use Rattle.trace_rules.specs.View.{View, Sent}
 use Rattle.trace_rules.specs.Seen.{seen_all}
 use Rattle.homa_plain.specs.World.{World, SentPacket, own_clock, stamped}

@@ -16,7 +16,10 @@ use Rattle.homa_plain.specs.Host.{Host, Told}
 use Rattle.homa_plain.specs.Rules.{Answer, Did}
 use Rattle.homa_plain.specs.Timers.{Place, OfClient, OfServer, client_acts, server_acts}
 use Rattle.homa_plain.specs.Sending.{client_granted, client_sends}
-use Rattle.homa_plain.specs.Steps.{Work, now_of, moment, asked, served, hears_cutoffs, comes_to_row, takes, is_stale, comes, client_acted}
+use Rattle.homa_plain.specs.Work.{Work, now_of}
+use Rattle.homa_plain.specs.Steps.{moment, asked, served, comes_to_row, takes, comes, client_acted}
+use Rattle.homa_plain.specs.CutoffsPackets.{hears_cutoffs}
+use Rattle.homa_plain.specs.OldPackets.{is_stale}
 use Rattle.homa_plain.specs.Steps.{server_acted, acts_at, acts, ended}
 use Rattle.trace_rules.specs.View.{View, Sent}
 use Rattle.trace_rules.specs.Seen.{seen, seen_all, delivered, delivery}

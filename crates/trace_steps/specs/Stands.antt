@@ -5,7 +5,7 @@ use Rattle.homa_plain.specs.declared.id.CallId.{CallId}
 use Rattle.homa_plain.specs.declared.id.HostId.{HostId}
 use Rattle.homa_plain.specs.Rows.{ClientRow, ServerRow, State}
 use Rattle.homa_plain.specs.Host.{Host, packets_in, entries_from}
-use Rattle.homa_plain.specs.Steps.{Work}
+use Rattle.homa_plain.specs.Work.{Work}
 use Rattle.homa_plain.specs.World.{World, host_at, stamped}
 use Rattle.step_moves.specs.Worlds.{at_host}
 use Rattle.trace_rules.specs.View.{Called, View, has_run}

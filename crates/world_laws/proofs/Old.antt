@@ -7,7 +7,8 @@ use Rattle.homa_plain.specs.Settings.{accepted_life, band}
 use Rattle.homa_plain.specs.Packets.{Packet}
 use Rattle.homa_plain.specs.Host.{Host}
 use Rattle.homa_plain.specs.Rules.{Answer}
-use Rattle.homa_plain.specs.Steps.{is_stale, arrival_step}
+use Rattle.homa_plain.specs.OldPackets.{is_stale}
+use Rattle.homa_plain.specs.Steps.{arrival_step}
 use Rattle.homa_plain.specs.World.{World, SentPacket, own_clock, is_late}
 
 life_two : (s : Settings) → s.wire ≡ 2 → accepted_life s ≡ s.life + 4 * s.skew

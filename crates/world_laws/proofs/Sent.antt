@@ -22,7 +22,7 @@ use Rattle.homa_plain.specs.Rows.{ClientRow}
 use Rattle.homa_plain.specs.Sending.{Content, slice, level_at, request_content, response_content}
 use Rattle.homa_plain.proofs.CutoffLaws.{is_level_of}
 use Rattle.homa_plain.proofs.OutgoingLaws.{front-next_range}
-use Rattle.homa_plain.specs.Steps.{packet_from, bare, said}
+use Rattle.homa_plain.specs.Work.{packet_from, bare, said}
 use Rattle.homa_plain.proofs.WireLaws.{spelled_is_read}
 use Rattle.std.proofs.lemmas.List.{length-take-le, get_or-drop}
 use Rattle.world_laws.specs.Sound.{IsSent, HasNumbers, IsId, FitSays, FitTold, IsClientRow, IsPart, IsMessage}

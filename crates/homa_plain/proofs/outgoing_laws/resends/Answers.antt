@@ -1,4 +1,4 @@
-use Rattle.homa_plain.specs.Outgoing.{Resent}
+use Rattle.homa_plain.specs.Busy.{Resent}
 use Rattle.std.proofs.Common.{ap}
 use Rattle.homa_plain.proofs.OutgoingLaws.{busy-cases, cases-busy, part-queued}
 use Rattle.homa_plain.proofs.outgoing_laws.resends.Goals as goal

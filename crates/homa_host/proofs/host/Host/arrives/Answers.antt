@@ -1,6 +1,7 @@
 use Rattle.std.proofs.Common.{◌≡◌, ◌+◌, Bool, true, cond, sym, subst, ◌∙◌, arith}
 use Rattle.homa_plain.specs.Rules.{Answer}
-use Rattle.homa_plain.specs.Steps.{begun, comes, arrival_step, has_run, ended as ended_step}
+use Rattle.homa_plain.specs.Work.{begun}
+use Rattle.homa_plain.specs.Steps.{comes, arrival_step, has_run, ended as ended_step}
 use Rattle.homa_host.specs.Asking.{HasAsked}
 use Rattle.homa_host.specs.Amid.{Amid}
 use Rattle.homa_host.specs.Lending.{CanCome}

@@ -1,5 +1,6 @@
 use Rattle.std.proofs.Common.{◌≡◌, ◌<◌, ◌≤◌, None, Some, List, length, ap, sym, subst, ◌∙◌, arith}
-use Rattle.homa_plain.specs.Steps.{begun, starts, call_step, start_fault, next_id}
+use Rattle.homa_plain.specs.Work.{begun}
+use Rattle.homa_plain.specs.Steps.{starts, call_step, start_fault, next_id}
 use Rattle.host_view.specs.declared.outbox.SentFrame.{SentFrame}
 use Rattle.host_view.specs.Seen.{Seen}
 use Rattle.host_view.specs.Done.{IsDone}

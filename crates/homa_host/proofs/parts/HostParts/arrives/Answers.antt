@@ -8,7 +8,8 @@ use Rattle.homa_plain.specs.Entries.{PlainJunk}
 use Rattle.homa_plain.specs.Host.{Says}
 use Rattle.homa_plain.specs.Rules.{Answer}
 use Rattle.homa_plain.specs.Packets.{Packet, packet_between}
-use Rattle.homa_plain.specs.Steps.{begun, tells, comes}
+use Rattle.homa_plain.specs.Work.{begun, tells}
+use Rattle.homa_plain.specs.Steps.{comes}
 use Rattle.homa_plain.specs.Wire.{packet_in}
 use Rattle.homa_wire.specs.Part.{part}
 use Rattle.host_state.specs.Control.{Control}

@@ -11,7 +11,8 @@ use Rattle.homa_plain.specs.Entries.{PlainStale}
 use Rattle.homa_plain.specs.Host.{Says}
 use Rattle.homa_plain.specs.Settings.{IsValid}
 use Rattle.host_state.specs.Control.{Control}
-use Rattle.homa_plain.specs.Steps.{Asked, Work, begun, tells, acked, comes_to_row}
+use Rattle.homa_plain.specs.Steps.{Asked, acked, comes_to_row}
+use Rattle.homa_plain.specs.Work.{Work, begun, tells}
 use Rattle.homa_plain.specs.Wire.{IsWellFormed}
 use Rattle.homa_in.specs.Pieces.{piece_in}
 use Rattle.homa_server.specs.Answers.{service_in}

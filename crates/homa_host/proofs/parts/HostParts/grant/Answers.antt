@@ -7,7 +7,8 @@ use Rattle.homa_plain.specs.declared.packet.Body.TheVariants as body
 use Rattle.homa_plain.specs.declared.settings.Settings.{Settings}
 use Rattle.homa_plain.specs.Choice.{new_end}
 use Rattle.homa_plain.specs.Sending.{Arriving}
-use Rattle.homa_plain.specs.Steps.{Work, posts, grants_at}
+use Rattle.homa_plain.specs.Work.{Work, posts}
+use Rattle.homa_plain.specs.Steps.{grants_at}
 use Rattle.host_state.specs.Control.{Control, IsAt}
 use Rattle.host_view.specs.declared.mark.Mark.{Mark}
 use Rattle.host_books.specs.Ends.{grant_to}

@@ -6,7 +6,8 @@ use Rattle.homa_plain.specs.declared.id.CallId.{CallId}
 use Rattle.homa_plain.specs.declared.row.RowFacts.{RowFacts}
 use Rattle.homa_plain.specs.declared.row.Emitted.{Emitted}
 use Rattle.homa_plain.specs.declared.row.Emitted.TheVariants.{Sent, Short, Rests}
-use Rattle.homa_plain.specs.Steps.{Work, request_leaves}
+use Rattle.homa_plain.specs.Work.{Work}
+use Rattle.homa_plain.specs.SentNext.{request_leaves}
 use Rattle.homa_in.specs.Sends.{IfSent, IsAffordable}
 use Rattle.homa_client.specs.Held.{seen_row}
 use Rattle.homa_client.specs.Gives.{facts}

@@ -12,7 +12,8 @@ use Rattle.homa_plain.specs.declared.row.Emitted.TheVariants.{Sent, Short, Rests
 use Rattle.homa_plain.specs.declared.settings.Settings.{Settings}
 use Rattle.homa_plain.specs.Host.{peer_cutoffs}
 use Rattle.homa_plain.specs.Sending.{response_content}
-use Rattle.homa_plain.specs.Steps.{Work, response_leaves}
+use Rattle.homa_plain.specs.Work.{Work}
+use Rattle.homa_plain.specs.SentNext.{response_leaves}
 use Rattle.homa_in.specs.Sends.{IfSent, IsAffordable}
 use Rattle.host_places.specs.Placed.{Placed}
 use Rattle.homa_server.specs.Held.{HeldServer, HeldState, Answering, seen_server, state_response, response_in, IsReplied}

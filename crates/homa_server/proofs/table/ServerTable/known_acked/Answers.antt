@@ -1,5 +1,5 @@
 use Rattle.std.proofs.Common.{◌≡◌, ℕ, Some, None, Option, IfNone, sym, subst, ap, ◌∙◌}
-use Rattle.homa_plain.specs.AtServer.{server_acked}
+use Rattle.homa_plain.specs.Tombstones.{server_acked}
 use Rattle.msg_pool.specs.Pool.{Pool}
 use Rattle.homa_in.specs.Pooled.{AreIn}
 use Rattle.host_places.specs.Placed.{ArePlaced, set_at}

@@ -2,7 +2,8 @@ use Rattle.std.proofs.Common.{ℕ, List, [], ◌∷◌, ◌++◌, map, sym, subs
 use Rattle.host_state.proofs.At.{at-joined, at-five}
 use Rattle.std.specs.Prelude.{slice_index_or}
 use Rattle.homa_plain.specs.Host.{finished_at}
-use Rattle.homa_plain.specs.Steps.{Work, acknowledged}
+use Rattle.homa_plain.specs.Work.{Work}
+use Rattle.homa_plain.specs.FiveAcks.{acknowledged}
 use Rattle.host_state.specs.Control.{Control, IsAt}
 use Rattle.host_state.specs.Fields.{control_by, peer_of}
 use Rattle.host_state.proofs.control.Control.finish.Goals as goal

@@ -2,7 +2,8 @@ use Rattle.std.proofs.Common.{◌<◌, List, map, sym, ap, subst, ◌∙◌}
 use Rattle.std.specs.Prelude.{slice_set}
 use Rattle.homa_plain.specs.declared.packet.Body.{Body}
 use Rattle.homa_plain.specs.Host.{PeerCutoffs}
-use Rattle.homa_plain.specs.Steps.{Work, hears_cutoffs, is_newer}
+use Rattle.homa_plain.specs.Work.{Work}
+use Rattle.homa_plain.specs.CutoffsPackets.{hears_cutoffs, is_newer}
 use Rattle.host_view.specs.declared.outbox.SentFrame.{SentFrame}
 use Rattle.host_state.specs.Control.{Control, IsAt, IsSound}
 use Rattle.host_state.specs.Fields.{control_by, peer_of}

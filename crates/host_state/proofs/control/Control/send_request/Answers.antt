@@ -5,7 +5,9 @@ use Rattle.homa_plain.specs.declared.packet.Role.TheVariants.{Client, Server}
 use Rattle.homa_plain.specs.Wire.{IsCall}
 use Rattle.homa_plain.specs.Host.{PeerCutoffs}
 use Rattle.homa_plain.specs.Rows.{ClientRow}
-use Rattle.homa_plain.specs.Steps.{Work, request_leaves, oldest}
+use Rattle.homa_plain.specs.Work.{Work}
+use Rattle.homa_plain.specs.SentNext.{request_leaves}
+use Rattle.homa_plain.specs.FiveAcks.{oldest}
 use Rattle.homa_plain.specs.Cutoffs.{first_cutoffs}
 use Rattle.homa_plain.specs.Sending.{level_at}
 use Rattle.host_state.specs.Control.{Control, IsAt}

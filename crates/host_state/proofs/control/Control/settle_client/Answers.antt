@@ -1,7 +1,7 @@
 use Rattle.std.proofs.Common.{refl, sym, subst, rules}
 use Rattle.homa_plain.specs.declared.packet.Role.TheVariants.{Client}
 use Rattle.host_state.specs.Control.{IsAt}
-use Rattle.homa_plain.specs.Steps.{finishes}
+use Rattle.homa_plain.specs.FiveAcks.{finishes}
 use Rattle.host_state.proofs.Settle.{at-asked}
 use Rattle.host_state.proofs.control.Control.settle_client.Goals as goal
 
