@@ -363,6 +363,13 @@ impl Host {
         self.parts.clients.live()
     }
 
+    /// How many calls the host serves, tombstones among them: at most `served` of the settings.
+    pub fn served(&self) -> u32
+        ensures { result ≡ len self.now.host.servers }
+    {
+        self.parts.servers.rows()
+    }
+
     /// The timers: exactly those of the rows that have a deadline.
     pub fn timers(&self) -> &Timers
         ensures { AreArmed self.now result.now.timers }
