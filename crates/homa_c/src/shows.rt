@@ -75,8 +75,8 @@ pub extern "C" fn homa_frame(
     OK
 }
 
-/// The level of the frame of the last step with this number, as the packet says it: 0 to 7, where 7 goes first. 0 where the
-/// handle isn't open, or there is no such frame.
+/// The level of the frame of the last step with this number: its fourth byte, where 7 goes first. 0 where the handle isn't open,
+/// or there is no such frame.
 #[unsafe(no_mangle)]
 pub extern "C" fn homa_frame_level(host: &mut Handle, i: usize) -> u32
     ensures closed { host.old.is_open ≡ false → result ≡ 0 }
