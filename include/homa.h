@@ -36,11 +36,11 @@
 #include <string.h>
 
 /* What a call answers. A right program meets those below 16; from 16 on it made a mistake. homa_text_of has a word for each. Unless it is
- * HOMA_OK, nothing happened to the host, and nothing was written but what the call says. What is shown of the last step stays, but for this:
- * where a datagram asks or finds no memory, no frame and no entry is shown; where homa_call is SPENT or homa_answer finds NO_MEMORY, either
- * that, or the last step stays. If more than one cause holds, the first of this order is told. At opening: the handle, a setting, `id`, the
- * incarnation, `last`. Else: the handle, the length of the datagram, the host, SPENT by the clock or the steps, BAD_TICK, the length of the
- * message, its pages, FULL, SPENT by the numbers. Of homa_answer: the handle, GONE, NO_BYTES, then as else. */
+ * HOMA_OK, nothing happened to the host, and nothing was written but what the call says. What is shown of the last step stays, but where a
+ * datagram asks or finds no memory: then no frame and no entry is shown. Behind a homa_call that is SPENT, and a homa_answer that finds no
+ * memory, it stays or nothing is shown. If more than one cause holds, the first of this order is told. At opening: the handle, a setting,
+ * `id`, the incarnation, `last`. Else: the handle, the length of the datagram, the host, SPENT by the clock or the steps, BAD_TICK, the
+ * length of the message, its pages, FULL, SPENT by the numbers. Of homa_answer: the handle, GONE, NO_BYTES, then as else. */
 enum {
     HOMA_OK = 0,
     HOMA_ASKS = 1,             /* of homa_deliver: an answer is wanted */
