@@ -2,8 +2,8 @@
  *
  * A host calls services of other hosts and serves their calls. The program feeds it with datagrams, turns and calls; each is one
  * step of the host. After a step it sends the frames of that step (homa_frames, homa_frame) and reads its entries (homa_entries,
- * homa_entry, homa_whole), before it does anything else. The next homa_call, homa_deliver or homa_turn may end what is shown of the
- * last step, also where it isn't done. docs/use/library.md shows the loops of a client and of a server.
+ * homa_entry, homa_whole), before it does anything else. The next homa_call, homa_deliver, homa_answer or homa_turn may end what is
+ * shown of the last step, also where it isn't done. docs/use/library.md shows the loops of a client and of a server.
  *
  * Ticks: `now` counts ticks of the host's own clock, 0 to 1,000,000,002,000. The program says how long a tick is. A host's clock
  * never falls; two steps may have one tick. No step begins if `now` is below the tick of the last step (BAD_TICK), past the last tick, or
@@ -20,6 +20,8 @@
  * - one call at a time on a handle, and none from a signal handler. A handle may go from one thread to another where one has ended its
  *   call before the other begins, as with a mutex; different handles know nothing of each other;
  * - `from` is the host that sent the datagram, or no host at all did; and a datagram isn't delivered to another host.
+ * What is proved of many hosts, as that a call runs at most once in a life of its server, is proved of a world. No clause says that a net
+ * of programs is one: docs/use/library.md, 'What a program must guarantee', says what they see to.
  */
 #ifndef HOMA_H
 #define HOMA_H
@@ -35,10 +37,10 @@
 
 /* What a call answers. A right program meets those below 16; from 16 on it made a mistake. homa_text_of has a word for each. Unless it is
  * HOMA_OK, nothing happened to the host, and nothing was written but what the call says. What is shown of the last step stays, but where a
- * datagram asks or finds no memory, and where a call is SPENT: then no frame and no entry is shown. If more than one cause holds, the first of
- * this order is told. At opening: the handle, a setting, `id`, the incarnation, `last`. Else: the handle, the length of the datagram, the
- * host, SPENT by the clock or the steps, BAD_TICK, the length of the message, its pages, FULL, SPENT by the numbers. Of homa_answer: the
- * handle, GONE, NO_BYTES, then as else. */
+ * datagram asks or finds no memory: then no frame and no entry is shown. Behind a homa_call that is SPENT, and a homa_answer that finds no
+ * memory, it stays or nothing is shown. If more than one cause holds, the first of this order is told. At opening: the handle, a setting,
+ * `id`, the incarnation, `last`. Else: the handle, the length of the datagram, the host, SPENT by the clock or the steps, BAD_TICK, the
+ * length of the message, its pages, FULL, SPENT by the numbers. Of homa_answer: the handle, GONE, NO_BYTES, then as else. */
 enum {
     HOMA_OK = 0,
     HOMA_ASKS = 1,             /* of homa_deliver: an answer is wanted */
@@ -70,8 +72,8 @@ enum {
     HOMA_RAN = 1,       /* a request was answered, and the answer that was given is its response. id, service, len: bytes of the request. peer:
                          * the client */
     HOMA_DONE = 2,      /* a call is done: its response is whole. id, len: bytes of the response. peer: who sent them */
-    HOMA_TIMEOUT = 3,   /* a call failed: `tries` RESENDs in a row had no answer but UNKNOWN. It was served at most once in each life of the
-                         * server, and may still be served after this entry (docs/use/library.md, 'After a timeout'). id */
+    HOMA_TIMEOUT = 3,   /* a call failed: `tries` RESENDs in a row had no answer but UNKNOWN. It may have been served, and may still be after
+                         * this entry (docs/use/library.md, 'After a timeout'). id */
     HOMA_FORGOTTEN = 4, /* a call failed: by its server's word it was served, and the response is gone. id. peer: who said so */
     HOMA_JUNK = 5,      /* the datagram is no packet of this version. peer: who sent it */
     HOMA_STALE = 6,     /* the packet is too old. peer: who sent it. at: the tick of its clock at which it did */
@@ -116,7 +118,7 @@ typedef struct {
     uint32_t wire;       /* version of the packets: 1 or 2 */
 } homa_settings;
 
-/* A call: its client, the client's incarnation, and its number in that incarnation. No two calls have one. */
+/* A call: its client, the client's incarnation, and its number in that incarnation. No two calls have one, if no incarnation is used twice. */
 typedef struct {
     uint16_t client;
     uint32_t incarnation;
@@ -201,8 +203,8 @@ HOMA_POINTERS uint32_t homa_wrong_setting(const homa_settings *settings);
  * IS_OPEN, BAD_SETTING, BAD_HOST, BAD_INCARNATION, BAD_TICK, NO_MEMORY: the handle stays as it was. */
 HOMA_POINTERS uint32_t homa_open(const homa_settings *settings, uint16_t id, uint32_t incarnation, uint64_t last, homa_host *host);
 
-/* Opens a host as homa_open does, that keeps what asks: of each call the datagram that asked last, until the call is answered. So a call is told
- * once, and its answer may come later, by homa_answer. There is room for `kept` calls, 1 to 4,096. A kept datagram is delivered at most `keep` ticks
+/* Opens a host as homa_open does, that keeps what asks: of each call the datagram that asked last. While a call is kept it is told once, and
+ * its answer may come later, by homa_answer. There is room for `kept` calls, 1 to 4,096. A kept datagram is delivered at most `keep` ticks
  * after it came, 0 to `life`; let it be several times `resend`, so that a client that waits has a fresh datagram here. With wire 2 the host
  * looks at a datagram's age besides, and `life` will do. With wire 1 nothing else does: a datagram comes to homa_deliver at most
  * `life - keep` ticks after it was sent.
@@ -227,17 +229,18 @@ HOMA_POINTERS uint32_t homa_call(homa_host *host, uint16_t server, uint8_t servi
  *   response. Without one it wasn't taken (docs/use/library.md, 'An answer that isn't taken').
  * ASKS, only with no answer: it makes the request of the call `asked` whole, which homa_whole gives. Nothing happened: deliver the
  *   same datagram again with the answer, at once and at the same tick, or later ('An answer that isn't ready').
- * NO_MEMORY, only with an answer: the same, and there is no memory for the answer. Keep it by the call's id, and deliver it with the
- *   next datagram that asks for that call.
+ * NO_MEMORY, only with an answer: it makes a request whole, and there is no memory for the answer. Nothing happened, and `asked` isn't
+ *   written. Keep the answer by the call's id, and deliver it with the next datagram that asks for that call.
  * SPENT, NOT_OPEN, BAD_HOST, BAD_TICK; TOO_LONG, of the datagram or the answer; TOO_MANY_PAGES, of the answer.
  *
  * At a host that keeps what asks (homa_open_late), with no answer:
  * OK: the step is done. If it asks for a call whose answer is kept, the step has that answer, and an entry HOMA_RAN names the call.
- * ASKS: it asks for the call `asked`, which is kept from now on. It is told once as long as it is kept. Give the answer by homa_answer.
+ * ASKS: it asks for the call `asked`, which is kept from now on, and homa_whole has its request. It is told once as long as it is kept. Give
+ *   the answer by homa_answer.
  * AT_WORK: it asks for a call that is kept, and takes the place of the datagram that asked before. Nothing is to be done.
- * FULL: it asks, and there is no room to keep it. Its client asks again.
- * NO_MEMORY: it asks, and there is no memory to keep it, or for the answer that is kept. Its client asks again.
- * But for OK, nothing happened to the host, no frame and no entry is shown, and homa_whole has the request.
+ * FULL: it asks, and there is no room to keep it. A client that still waits asks again.
+ * NO_MEMORY: it asks, and there is no memory to keep it, or for the answer that is kept. A client that still waits asks again.
+ * With these four nothing happened to the host, and no frame and no entry is shown.
  * With an answer in hand it is as at a host that keeps nothing; a call that runs isn't kept any more. */
 HOMA_POINTERS uint32_t homa_deliver(homa_host *host, uint16_t from, const uint8_t *frame, size_t len, uint64_t now, const uint8_t *answer,
                                     size_t answer_len, homa_asked *asked);
@@ -286,8 +289,9 @@ HOMA_POINTERS uint32_t homa_entry(homa_host *host, size_t i, homa_entry_info *in
 /* What more entry `i` tells. NOT_THERE, NOT_OPEN: nothing is written. */
 HOMA_POINTERS uint32_t homa_entry_more(homa_host *host, size_t i, homa_more_info *more);
 
-/* How many bytes the message has that became whole in the last step: 1 to 1,000,000, or 0 where none did. It is the request that is
- * asked about or was answered (HOMA_RAN), or the response of a call that is done (HOMA_DONE). A step makes one message whole at most. */
+/* How many bytes the message has that became whole in the last step: 1 to 1,000,000, which no clause says, or 0 where none did. It is the
+ * request that is asked about or was answered (HOMA_RAN), or the response of a call that is done (HOMA_DONE). A step makes one message whole
+ * at most. */
 HOMA_POINTERS size_t homa_whole_len(homa_host *host);
 
 /* Copies that message to the front of `room`; what is behind it stays. NO_ROOM, NOT_OPEN: nothing is written. */

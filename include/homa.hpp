@@ -151,8 +151,8 @@ public:
     }
 };
 
-// A host that keeps the datagrams that ask (homa_open_late), so that each call is told once and its answer may come later. Calls, turns,
-// frames and entries are those of every host. docs/use/library.md, 'An answer that isn't ready', says how long a call waits.
+// A host that keeps the datagrams that ask (homa_open_late): a call is told once while it is kept, and its answer may come later. Calls,
+// turns, frames and entries are those of every host. docs/use/library.md, 'An answer that isn't ready', says how long a call waits.
 class late_host : public host {
 public:
     enum class came { step, asks, at_work, full };

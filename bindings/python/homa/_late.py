@@ -16,8 +16,8 @@ class Answered(enum.Enum):
 
 
 class LateHost(Host):
-    """A host with room for `kept` calls, 1 to 4,096: each is told once, and answered at any time. A kept datagram is delivered at most `keep`
-    ticks after it came, 0 to `life` of the settings."""
+    """A host with room for `kept` calls, 1 to 4,096: each is told once while it is kept, and may be answered later. A kept datagram is
+    delivered at most `keep` ticks after it came, 0 to `life` of the settings."""
 
     def __init__(self, settings: Settings, number: int, incarnation: int, last: int = 0, *, kept: int = 1024, keep: int | None = None) -> None:
         self._kept = _in(kept, 0xFFFFFFFF, "kept")
