@@ -35,10 +35,10 @@
 
 /* What a call answers. A right program meets those below 16; from 16 on it made a mistake. homa_text_of has a word for each. Unless it is
  * HOMA_OK, nothing happened to the host, and nothing was written but what the call says. What is shown of the last step stays, but where a
- * datagram asks or finds no memory, and where a call is SPENT: then no frame and no entry is shown. If more than one cause holds, the first of
- * this order is told. At opening: the handle, a setting, `id`, the incarnation, `last`. Else: the handle, the length of the datagram, the
- * host, SPENT by the clock or the steps, BAD_TICK, the length of the message, its pages, FULL, SPENT by the numbers. Of homa_answer: the
- * handle, GONE, NO_BYTES, then as else. */
+ * datagram asks or finds no memory: then no frame and no entry is shown. Behind a homa_call that is SPENT, and a homa_answer that finds no
+ * memory, it stays or nothing is shown. If more than one cause holds, the first of this order is told. At opening: the handle, a setting,
+ * `id`, the incarnation, `last`. Else: the handle, the length of the datagram, the host, SPENT by the clock or the steps, BAD_TICK, the
+ * length of the message, its pages, FULL, SPENT by the numbers. Of homa_answer: the handle, GONE, NO_BYTES, then as else. */
 enum {
     HOMA_OK = 0,
     HOMA_ASKS = 1,             /* of homa_deliver: an answer is wanted */
@@ -246,7 +246,7 @@ HOMA_POINTERS uint32_t homa_deliver(homa_host *host, uint16_t from, const uint8_
  *   keeps the answer, and gives it to the next datagram that asks for the call.
  * LATER: the datagram is older than `keep`, and there was no step. The answer is kept as above. What is shown stays.
  * GONE: no such call waits for an answer. It was answered or declined, it had to make room, or it never asked. What is shown stays.
- * NO_MEMORY: the call waits on; nothing may be shown.
+ * NO_MEMORY: the call waits on. What is shown stays, or nothing is shown.
  * SPENT, NOT_OPEN, BAD_HOST, BAD_TICK, NO_BYTES, TOO_LONG, TOO_MANY_PAGES: the call waits on.
  *
  * A call isn't kept any more when a step ran it, when it is declined, or when it makes room. If another call asks and there is no room, the

@@ -158,6 +158,34 @@ static void junk_and_stale(void) {
     close_all();
 }
 
+/* What a host sends that has another version, and then what two send whose clocks are too far apart: who is ahead tells `stale`. */
+static void hosts_that_differ(void) {
+    homa_call_id id;
+    begin();
+    open_all(1, 0);
+    CHECK(homa_close(&hosts[SERVER]) == HOMA_OK);
+    settings.wire = 2;
+    CHECK(homa_open(&settings, SERVER, 1, 0, &hosts[SERVER]) == HOMA_OK);
+    called(CLIENT, 5, 0);
+    CHECK(keep_frames(CLIENT) == 1 && comes(SERVER, CLIENT, 0, 0, 0) == HOMA_OK && tells(SERVER, HOMA_JUNK, NULL, 0, CLIENT, 0));
+    CHECK(homa_call(&hosts[SERVER], CLIENT, 7, bytes, 5, 0, &id) == HOMA_OK && keep_frames(SERVER) == 1);
+    CHECK(comes(CLIENT, SERVER, 0, 0, 0) == HOMA_OK && tells(CLIENT, HOMA_JUNK, NULL, 0, SERVER, 0));
+    close_all();
+    begin();
+    settings.wire = 2;
+    settings.skew = 3;
+    open_all(1, 0);
+    uint64_t ahead = settings.life + 2 * settings.skew + 1;
+    id = called(CLIENT, 5, ahead);
+    CHECK(keep_frames(CLIENT) == 1 && comes(SERVER, CLIENT, 0, 0, 5) == HOMA_OK && tells(SERVER, HOMA_RAN, &id, 5, CLIENT, 0));
+    CHECK(keep_frames(SERVER) == 1 && comes(CLIENT, SERVER, 0, ahead, 0) == HOMA_OK && tells(CLIENT, HOMA_STALE, NULL, 0, SERVER, 0));
+    CHECK(homa_live(&hosts[CLIENT]) == 1);
+    called(OTHER, 5, 0);
+    CHECK(homa_turn(&hosts[SERVER], ahead) == HOMA_OK && keep_frames(OTHER) == 1);
+    CHECK(comes(SERVER, OTHER, 0, ahead, 0) == HOMA_OK && tells(SERVER, HOMA_STALE, NULL, 0, OTHER, 0));
+    close_all();
+}
+
 /* A request of three pages comes in part, for which there are one row and four pages; then another, of one packet, and one of two pages. */
 static void no_row_and_no_pages(void) {
     for (uint32_t served = 1; served <= 2; served++) {
@@ -301,6 +329,7 @@ int main(void) {
     a_call(false);
     a_call(true);
     junk_and_stale();
+    hosts_that_differ();
     no_row_and_no_pages();
     gaps_and_dropped();
     timeout_and_forgotten();
