@@ -149,7 +149,7 @@ typedef struct {
     uint64_t at;
 } homa_more_info;
 
-/* What a host counts from its opening on; the last two are so now. A count that rises stands still at 2^64 - 1. */
+/* What a host counts from its opening on; the last three are so now. A count that rises stands still at 2^64 - 1. */
 enum {
     HOMA_COUNT_CALLS, HOMA_COUNT_DONE, HOMA_COUNT_TIMEOUTS, HOMA_COUNT_FORGOTTEN, /* calls that began, and how they ended */
     HOMA_COUNT_ASKED, HOMA_COUNT_RAN,                                             /* datagrams that asked, and requests that were answered */
@@ -159,13 +159,14 @@ enum {
     HOMA_COUNT_DROPPED, HOMA_COUNT_BURIED, HOMA_COUNT_FREED,
     HOMA_COUNT_LIVE, /* calls that are live */
     HOMA_COUNT_KEPT, /* calls that are kept until they are answered (homa_open_late) */
+    HOMA_COUNT_ROWS, /* rows as a server, of calls that are remembered too: 0 to `served` */
     HOMA_COUNTS
 };
 
 /* All of them, in this order, as far as this header knows. */
 typedef struct {
     uint64_t calls, done, timeouts, forgotten, asked, ran, sent, sent_bytes, received, resends_sent, junk, stale, no_row, no_pages, gaps, dropped,
-        buried, freed, live, kept;
+        buried, freed, live, kept, rows;
 } homa_counts;
 
 #ifdef __GNUC__

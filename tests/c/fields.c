@@ -50,6 +50,7 @@ AT(homa_counts, no_pages, 8 * HOMA_COUNT_NO_PAGES, 8);
 AT(homa_counts, freed, 8 * HOMA_COUNT_FREED, 8);
 AT(homa_counts, live, 8 * HOMA_COUNT_LIVE, 8);
 AT(homa_counts, kept, 8 * HOMA_COUNT_KEPT, 8);
+AT(homa_counts, rows, 8 * HOMA_COUNT_ROWS, 8);
 _Static_assert(sizeof(homa_host) == 16, "homa_host");
 AT(homa_host, at, 0, 8);
 AT(homa_host, is_open, 8, 1);

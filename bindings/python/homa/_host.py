@@ -99,7 +99,7 @@ class Settings:
 
 
 class Counts(NamedTuple):
-    """What a host counted from its opening on, and how many calls are live."""
+    """What a host counted from its opening on; and how many calls are live, how many are kept, and how many rows are in use."""
 
     calls: int
     done: int
@@ -121,6 +121,7 @@ class Counts(NamedTuple):
     freed: int
     live: int
     kept: int
+    rows: int
 
 
 class CallId(NamedTuple):

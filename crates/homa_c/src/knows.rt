@@ -79,6 +79,7 @@ pub extern "C" fn homa_count(host: &mut Handle, which: u32) -> u64
         17 => counts.freed,
         18 => u64::from(asking.host().live()),
         19 => held.kept() as u64,
+        20 => u64::from(asking.host().served()),
         _ => 0,
     }
 }

@@ -222,7 +222,7 @@ pub enum Note {
     Freed { id: CallId },
 }
 
-/// What a host counted from its opening on, and how many calls are live, and kept until they are answered.
+/// What a host counted from its opening on; and how many calls are live, how many are kept until they are answered, and how many rows are in use.
 #[derive(Clone, Copy, Debug, Default, PartialEq, Eq)]
 pub struct Counts {
     pub calls: u64,
@@ -245,6 +245,7 @@ pub struct Counts {
     pub freed: u64,
     pub live: u64,
     pub kept: u64,
+    pub rows: u64,
 }
 
 /// A host. It gives its memory back when it is dropped.
@@ -367,6 +368,7 @@ impl Host {
             freed: next(),
             live: next(),
             kept: next(),
+            rows: next(),
         }
     }
 }
