@@ -159,7 +159,7 @@ enum {
     HOMA_COUNT_DROPPED, HOMA_COUNT_BURIED, HOMA_COUNT_FREED,
     HOMA_COUNT_LIVE, /* calls that are live */
     HOMA_COUNT_KEPT, /* calls that are kept until they are answered (homa_open_late) */
-    HOMA_COUNT_ROWS, /* rows as a server, of calls that are remembered too: 0 to `served` */
+    HOMA_COUNT_ROWS, /* calls that the host serves, those that are over but remembered among them: at most `served` */
     HOMA_COUNTS
 };
 

@@ -34,6 +34,7 @@ static void checked(bool holds, int line, const char *what) {
 
 static bool is_same(homa_call_id a, homa_call_id b) { return a.client == b.client && a.incarnation == b.incarnation && a.number == b.number; }
 static uint64_t kept(void) { return homa_count(&hosts[SERVER], HOMA_COUNT_KEPT); }
+static uint64_t rows(int host) { return homa_count(&hosts[host], HOMA_COUNT_ROWS); }
 
 /* ---- the net */
 
@@ -139,6 +140,7 @@ static void after_some_ticks(void) {
         run(400);
         bool is_done = len > 1400 || at <= 24;
         CHECK(told == 1 && ran == 1 && done == is_done && timeouts == !is_done && kept() == 0);
+        CHECK(rows(SERVER) == 1 && rows(CLIENT) == 0); /* what is remembered of the call */
     }
     CHECK(again == 49);
     begin();

@@ -99,7 +99,7 @@ class Settings:
 
 
 class Counts(NamedTuple):
-    """What a host counted from its opening on; and how many calls are live, how many are kept, and how many rows are in use."""
+    """What a host counted from its opening on, and how many calls are live, kept until they are answered, and served."""
 
     calls: int
     done: int

@@ -333,7 +333,8 @@ impl AskingHost {
     /// The message that became whole in its last step: the request that is asked about, the one that was answered, or the
     /// response of a call that is done. Empty where none became whole.
     pub fn whole(&self) -> &[u8]
-        ensures { result.now ≡ self.now.whole }
+        ensures bytes { result.now ≡ self.now.whole }
+        ensures small { length result.now ≤ LONGEST_MESSAGE }
     {
         self.scratch.bytes()
     }

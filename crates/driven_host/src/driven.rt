@@ -94,8 +94,8 @@ impl DrivenHost {
     }
 
     /// Calls a service of another host, at tick `now` of the host's own clock, up to 1,000,000,002,000. None where the call
-    /// can't start, where there is no other host of this name, and where no step may begin: after 2^56 of them, none may ever
-    /// again. The request is dropped then, and the host stays as it was; either the last step is shown on, or nothing.
+    /// can't start, where there is no other host of this name, and where no step may begin, as after 2^56 of them. The request
+    /// is dropped then, and the host stays as it was; either the last step is shown on, or nothing.
     pub fn call(&mut self, server: HostId, number: u8, request: Vec<u8>, now: u64) -> Option<CallId>
         ensures begins { MayBegin self.old.host self.old.steps now → IsOther self.old.host server
             → start_fault self.old.host.settings self.old.host.host server request.items ≡ None → IsSome result }

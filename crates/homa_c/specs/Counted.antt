@@ -4,7 +4,8 @@ use Rattle.plain_sets.specs.Maps.{len}
 use Rattle.driven_host.specs.declared.counts.HostCounts.{HostCounts}
 use Rattle.late_host.specs.Late.{Late}
 
--- the counts by their numbers, from 0, and at the end how many calls are live, how many are kept until they are answered, and how many are served
+-- the counts by their numbers, from 0, and at the end how many calls are live, how many are kept until they are answered, and
+-- how many rows the calls have that it serves
 abbrev pub all_counts : HostCounts → ℕ → ℕ → ℕ → List ℕ
 all_counts c live kept rows =
     c.calls ∷ c.done ∷ c.timeouts ∷ c.forgotten ∷ c.asked ∷ c.ran ∷ c.sent ∷ c.sent_bytes ∷ c.received ∷ c.resends_sent ∷ c.junk ∷ c.stale ∷ c.no_row
@@ -13,4 +14,5 @@ all_counts c live kept rows =
 -- the count of this number; 0 where there is none
 abbrev pub count_of : Late → ℕ → ℕ
 count_of l which =
-    unwrap_or (slice_get (all_counts l.driven.counts (len l.driven.host.host.clients) (length l.calls) (len l.driven.host.host.servers)) which) 0
+    let host = l.driven.host.host in
+    unwrap_or (slice_get (all_counts l.driven.counts (len host.clients) (length l.calls) (len host.servers)) which) 0

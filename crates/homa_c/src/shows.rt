@@ -5,6 +5,7 @@ ghost use Rattle.homa_c.specs.Shown.{told_entries, shown_entry, shown_more, show
 use crate::entries::{HomaEntry, HomaMore, entry_of, more_of};
 use crate::handle::Handle;
 use crate::results::{NO_ROOM, NOT_OPEN, NOT_THERE, OK};
+use homa_plain::LONGEST_MESSAGE;
 
 /// Where a frame has its level.
 const LEVEL_AT: usize = 3;
@@ -74,8 +75,8 @@ pub extern "C" fn homa_frame(
     OK
 }
 
-/// The level of the frame of the last step with this number, as the packet says it: 0 to 7, where 7 goes first. 0 where the
-/// handle isn't open, or there is no such frame.
+/// The level of the frame of the last step with this number: its fourth byte, where 7 goes first. 0 where the handle isn't open,
+/// or there is no such frame.
 #[unsafe(no_mangle)]
 pub extern "C" fn homa_frame_level(host: &mut Handle, i: usize) -> u32
     ensures closed { host.old.is_open ≡ false → result ≡ 0 }
@@ -167,6 +168,7 @@ pub extern "C" fn homa_entry_more(host: &mut Handle, i: usize, more: &mut HomaMo
 pub extern "C" fn homa_whole_len(host: &mut Handle) -> usize
     ensures closed { host.old.is_open ≡ false → result ≡ 0 }
     ensures len { host.old.is_open ≡ true → result ≡ length host.old.slot.held.driven.whole }
+    ensures small { result ≤ LONGEST_MESSAGE }
     ensures same { host.new.slot.held ≡ host.old.slot.held }
     ensures open { host.new.is_open ≡ host.old.is_open }
 {

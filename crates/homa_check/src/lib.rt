@@ -2,8 +2,8 @@
 //!
 //! Model: a `Trace` of `check_lines` stores what a `View` of `trace_rules` says of the lines so far. Each line is judged by
 //! it (`judge`), taken, and then tested for windows (`step`).
-//! Main promise: `check` returns the verdict that `check_verdict` defines on the source's bytes. It is yes exactly if each
-//! line has its shape and obeys all laws. Otherwise it names the first line that doesn't, and the first clause that fails.
+//! Main promise: `check` returns the verdict that `check_verdict` defines on the source's bytes. It is yes exactly if there is
+//! a line, and each has its shape and obeys all laws. Otherwise it names the first line that doesn't, and the first clause that fails.
 //! A fault of the source is returned exactly if there was one. `NoMemory` may come at any time.
 #![tactic(auto)]
 

@@ -67,7 +67,8 @@ pub fn start_call<H: LoopHosts, N: Net, O: Observer>(
     Ok(())
 }
 
-/// The calls whose tick has come are started, in order. A line is read only where each call before it was started.
+/// The calls whose tick has come are started, in order. No clause says when a line is read: the code reads one where each call
+/// before it was started.
 pub fn starts<H: LoopHosts, S: Source, N: Net, O: Observer>(
     alloc: Global,
     reader: &mut Reader,

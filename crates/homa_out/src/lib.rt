@@ -8,10 +8,11 @@
 
 mod busy;
 mod next_piece;
+mod unscheduled;
 
 ghost use Rattle.std.specs.Prelude.{◌≡◌, ◌<◌, ◌≤◌, length};
 ghost use Rattle.plain_sets.specs.Numbers.{with_range, ranges};
-ghost use Rattle.homa_plain.specs.Outgoing.{opened, grant, restart, IsSound};
+ghost use Rattle.homa_plain.specs.Outgoing.{grant, IsSound};
 
 pub use busy::Resent;
 use homa_plain::LONGEST_MESSAGE;
@@ -44,24 +45,6 @@ impl Model for Outgoing {
 }
 
 impl Outgoing {
-    /// A message of `len` bytes, 1 to 1000000, of which the first `unsched` need no grant, and none was sent.
-    pub fn open(len: u32, unsched: u32) -> Outgoing
-        requires some { 1 ≤ len }
-        requires small { len ≤ LONGEST_MESSAGE }
-        requires unsched { 1 ≤ unsched }
-        ensures { result ≡ opened len unsched }
-    {
-        let end = len.min(unsched);
-        Outgoing {
-            waiting: RangeSet::upto(end),
-            len,
-            granted: end,
-            top: 0,
-            prio: 0,
-            unsched,
-        }
-    }
-
     /// A grant of the bytes below `offset` comes: those that weren't granted wait now, and go out at `prio`. A grant
     /// of no more than before changes nothing.
     pub fn grant(&mut self, offset: u32, prio: u8)
@@ -73,14 +56,6 @@ impl Outgoing {
             self.granted = end;
             self.prio = prio;
         }
-    }
-
-    /// Starts over: the bytes that need no grant wait, and nothing else.
-    pub fn restart(&mut self)
-        ensures { self.new ≡ restart self.old }
-    {
-        self.granted = self.len.min(self.unsched);
-        self.waiting = RangeSet::upto(self.granted);
     }
 
     /// The priority at which the granted bytes go out.

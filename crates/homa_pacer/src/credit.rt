@@ -1,4 +1,5 @@
-//! Credit: the payload bytes that a host may still send in this tick. How far a host grants is in `homa_host/src/grants`.
+//! Credit: the payload bytes that a host may still send in this tick. `homa_host/src/pump` stops at a piece that is longer.
+//! How far a host grants to others is in `homa_host/src/grants`.
 ghost use Rattle.std.specs.Prelude.{◌≡◌, ◌-◌, ◌≤◌};
 ghost use Rattle.homa_pacer.specs.Pace.{IsSound, refill};
 

@@ -1,4 +1,5 @@
-//! SRPT: the message with the fewest bytes left goes first, and the oldest of several with as many.
+//! What is sent next, by SRPT: the message with the fewest bytes left goes first, and the oldest of several with as many.
+//! `homa_host/src/pump` sends its next piece.
 ghost use Rattle.std.specs.Prelude.{◌≡◌, ◌<◌, ◌↔◌, [], IsNone, IfSome};
 ghost use Rattle.std.specs.Option.{option_map};
 ghost use Rattle.plain_sets.specs.Ordered.{placed};

@@ -1,4 +1,4 @@
--- What a packet of its server does to a call's row at its client.
+-- What a packet of its server does to a call's row at its client: UNKNOWN, which `AtServer` sends, and NEED_ACK among them.
 use Rattle.std.specs.Prelude.{ℕ, ◌==◌, not, nat_lt, true, if◌then◌else◌, Option, None, Some, List, [], ◌∷◌}
 use Rattle.homa_plain.specs.declared.id.CallId.{CallId}
 use Rattle.homa_plain.specs.declared.packet.Body.{Body}

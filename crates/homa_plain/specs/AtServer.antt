@@ -1,4 +1,4 @@
--- What a packet of its client does to a call's row at its server.
+-- What a packet of its client does to a call's row at its server. It sends UNKNOWN; what that does to the client is in `AtClient`.
 use Rattle.std.specs.Prelude.{ℕ, ◌+◌, ◌==◌, not, ◌||◌, nat_lt, nat_le, if◌then◌else◌, Option, None, Some, List, [], ◌∷◌, length}
 use Rattle.homa_plain.specs.declared.id.CallId.{CallId}
 use Rattle.homa_plain.specs.declared.packet.Body.{Body}

@@ -1,4 +1,4 @@
--- Which incoming messages are granted to, which outgoing message is sent next, and which rows are due.
+-- GRANTs: to how many messages (overcommitment), to which, at which priority, up to where. And which rows are due.
 use Rattle.std.specs.Prelude.{◌≡◌, ◌<◌, true, Some, slice_get, Contains, ℕ, suc, ◌+◌, ◌-◌, nat_lt, nat_le, min, if◌then◌else◌, Option, List, [], ◌∷◌}
 use Rattle.std.specs.Prelude.{◌++◌, length, take, filter}
 use Rattle.plain_sets.specs.Ordered.{is_below, ordered, firsts, first_of}

@@ -1,4 +1,5 @@
--- An incoming message: the bytes that have arrived, what is missing, and up to where its sender may send.
+-- An incoming message: the bytes that have arrived, what is missing, and up to where its sender may send. Bytes without a grant:
+-- `opened`, and for the sender `Outgoing.opened` and `restart`.
 use Rattle.std.specs.Prelude.{◌≤◌, ℕ, suc, ◌+◌, ◌-◌, ◌==◌, Bool, not, ◌&&◌, nat_lt, min, Option, unwrap_or, List, [], ◌∷◌, length}
 use Rattle.std.specs.Ordering.{nat_cmp}
 use Rattle.plain_sets.specs.Maps.{Map, empty, get, insert_all, retain, len, values, key_set}

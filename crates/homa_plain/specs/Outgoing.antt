@@ -1,4 +1,5 @@
--- An outgoing message: which of its bytes wait to be sent, how far it is granted, and how far it was sent.
+-- An outgoing message: which of its bytes wait to be sent, how far it is granted, and how far it was sent. Bytes without a grant:
+-- `opened` and `restart`, and for the receiver `Incoming.opened`.
 use Rattle.std.specs.Prelude.{◌≡◌, ◌⊎◌, ◌<◌, ◌≤◌, true, false, ℕ, ◌+◌, ◌-◌, Bool, nat_lt, min, max, if◌then◌else◌, Option, Some, None, List, []}
 use Rattle.std.specs.Prelude.{◌∷◌, length}
 use Rattle.plain_sets.specs.Maps.{len}

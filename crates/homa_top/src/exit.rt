@@ -21,7 +21,7 @@ pub enum ExitStatus {
     NetFailed,
     /// 7: a node took its last loop turn before the clock reached the end.
     Stalled,
-    /// 8: at a recorded node a packet arrived that its sender hadn't sent to this host in the last `life` ticks.
+    /// 8: at a recorded node a packet arrived that its sender hadn't sent to this host in this run, in the last `life` ticks.
     Stranger,
 }
 

@@ -2,8 +2,9 @@
 //!
 //! Model: a source is the bytes that it has left, and a sink those that it took. A net is what it did, in order, with the
 //! datagrams that it took and gave, and a clock the ticks that it is to give.
-//! Main promise: with the word `replay`, the sink took the replay text of the source's bytes, and the trace in it obeys all
-//! laws. Each other command prints the text that its definition gives for its input.
+//! Main promise: with the word `replay` and the status `Done` or `Refused`, the sink took the replay text of the source's
+//! bytes. If the schedule opens a world, each line of it obeys all laws. Otherwise the sink took a prefix. Each other command
+//! prints the text that its definition gives for its input, or a part of it, as its status says.
 #![tactic(auto)]
 
 mod commands;

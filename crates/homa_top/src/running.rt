@@ -43,9 +43,9 @@ use std::alloc::Global;
 /// - `make` prints a schedule of generated traffic, and `gen` the summary of its trace.
 /// - `node` reads a script, runs its local hosts over the net and the clock, and prints their trace. No clause says that
 ///   each line goes out at once, if the run comes to its end.
-/// - `record` does that and prints a schedule. Its replay repeats the run, if that came to its last tick and all hosts are
-///   local in incarnation 1. It stops with `Stranger` at a packet that the host from which it came didn't send to this one
-///   in the last `life` ticks.
+/// - `record` runs a script likewise, and prints a schedule of the run's events. The law `texts_repeat` says when its replay
+///   repeats the run. It stops with `Stranger` at a packet that the host from which it came didn't send to this one in this
+///   run, in the last `life` ticks.
 /// - `quiet` prints in how many rounds a call is done.
 ///
 /// Service h serves host h. The others serve hosts that restart, the last one first. What is said of bytes holds if

@@ -46,7 +46,7 @@ impl LateHost {
     ghost use Rattle.late_host.specs.Heard.{IsHeard, heard_fault, heard_counts, IsSettled, settled_counts};
 
     /// Opens a host without calls, as [`AskingHost::open`] does, with room to keep so many. A kept datagram is delivered at most
-    /// `keep` ticks after it Came. With version 1 of the wire nothing else sees to its age: the time that a datagram is under
+    /// `keep` ticks after it came. With version 1 of the wire nothing else sees to its age: the time that a datagram is under
     /// way and `keep` together must be at most `life`. Fails by want of memory alone.
     pub fn open(
         alloc: Global,
@@ -72,7 +72,7 @@ impl LateHost {
     }
 
     /// A datagram comes from another host, at tick `now` of the host's own clock. If it asks for a call that isn't kept, the
-    /// call is kept from now on, and its request is in `whole`. If it asks for a call whose answer is kept, the host takes the
+    /// call is kept from now on, if there is room and memory, and its request is in `whole`. If it asks for a call whose answer is kept, the host takes the
     /// step with that answer.
     pub fn deliver(&mut self, alloc: Global, from: HostId, frame: &[u8], now: u64) -> Heard
         ensures fault { heard_fault result ≡ delivery_fault self.old.driven.host self.old.driven.steps from 0 now }

@@ -79,7 +79,8 @@ impl Scratch {
 
     /// The bytes that it holds, at most 1,000,000.
     pub fn bytes(&self) -> &[u8]
-        ensures { result.now ≡ self.now }
+        ensures bytes { result.now ≡ self.now }
+        ensures small { length result.now ≤ 1000000 }
     {
         &self.room[..self.len]
     }

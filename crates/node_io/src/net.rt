@@ -8,7 +8,7 @@ ghost use Rattle.node_io.specs.Net.{arrival_of, receive_of, IfFrom, is_welcome, 
 
 use homa_plain::{Frame, HostId};
 
-/// A call of a net failed. Nothing was sent or given, and the net counted a fault.
+/// A call of a net failed, and the net counted a fault. Of an observable net nothing was sent or given.
 #[derive(Clone, Copy, Debug, PartialEq, Eq)]
 pub struct NetFailed;
 
@@ -62,8 +62,8 @@ pub trait Net {
         ensures gave { gave self.new ≡ gave self.old }
         ensures counted { CountsErrors faults result self.old self.new };
 
-    /// Receives a datagram for a host: the oldest from another host that was bound or routed. What others sent is passed
-    /// over. A datagram of more than 1,500 bytes is cut to these. Only an error counts a fault, and then nothing was
+    /// Receives a datagram for a host from another host that was bound or routed: the oldest, where the net tells what is
+    /// queued. What others sent is passed over. A receive gives at most 1,500 bytes. Only an error counts a fault, and then nothing was
     /// given.
     fn recv(&mut self, host: HostId, frame: &mut Frame) -> Result<Got, NetFailed>
         ensures from { IfOk result (λ got. IfFrom got (λ from. is_welcome (known self.old) host from ≡ true)) }

@@ -10,7 +10,8 @@
 ghost use Rattle.node_runs.specs.Replayed.{RecordingsRepeat, SettingsFirst, EventsFit, TurnsFit};
 
 /// Let all hosts of a node be local with incarnation 1, and nothing of its run be strange. Then the replay of what a
-/// recorder tells of the run gives the run's entries, but for those of the clock and of datagrams that come.
+/// recorder tells of the run, with the same answers, gives the run's entries, but for those of the clock and of datagrams
+/// that come.
 pub fn recordings_repeat()
     ensures { RecordingsRepeat }
 {}

@@ -2,15 +2,16 @@
 //!
 //! The model: a node is a plain world of which only the local hosts act (`node_runs`). No code stands here; a law is the
 //! contract of a function that does nothing.
-//! Main promise: where a node's net hands up what the node's hosts sent, and no other packet, each line of its trace has the
-//! shape and obeys all five laws (`node_traces_obey`). Each event of a node does what one of the world does, with a line
+//! Main promise: let a node's net hand up what the node's hosts sent, with version 1 within `life` ticks, and no other packet.
+//! Then each line of its trace has the shape and obeys all five laws (`node_traces_obey`). Each event of a node does what one of the world does, with a line
 //! that says the same; but its clock may go on by many ticks at once.
 #![tactic(auto)]
 
 ghost use Rattle.node_trace_laws.specs.Honest.{NodeTracesObey, NoneIsBroken, UsualIsHonest};
 ghost use Rattle.node_trace_laws.specs.Taken.{WholeTextsObey, FrontsObey};
 
-/// The traces of a node obey the laws, whatever its services answer and however its run goes on or breaks off. Let each
+/// Up to the first packet that the net made up or held too long, the lines of a node obey the laws, whatever its services answer
+/// with 1 to 1,000,000 bytes and a hold of at most 1,000,000 ticks, and however its run goes on or breaks off. Let each
 /// datagram in the first n lines be no packet, or one that was sent before in this run to this host by this sender,
 /// with version 1 in the last `life` ticks. Then these lines have the shape and obey all five laws, the last line too.
 /// Where that is so of all lines, a judge finds none that breaks a law.

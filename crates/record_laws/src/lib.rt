@@ -19,8 +19,9 @@ pub fn schedules_replayed()
     ensures { SchedulesReplayed }
 {}
 
-/// Where all hosts of a node are local with incarnation 1, the replay of what a recorder prints with status 0 tells what the
-/// node told, the clock's lines, those of datagrams that come and the last line aside.
+/// Let all hosts of a node be local with incarnation 1, and let the text that a recorder prints with status 0 be no longer than
+/// an input may be. Its replay with the same answers tells what the node told, the clock's lines, those of datagrams that come
+/// and the last line aside.
 pub fn texts_repeat()
     ensures { TextsRepeat }
 {}

@@ -222,7 +222,8 @@ pub enum Note {
     Freed { id: CallId },
 }
 
-/// What a host counted from its opening on; and how many calls are live, how many are kept until they are answered, and how many rows are in use.
+/// What a host counted from its opening on, and how many calls are live, how many are kept until they are answered, and how many
+/// rows it has for calls that it serves.
 #[derive(Clone, Copy, Debug, Default, PartialEq, Eq)]
 pub struct Counts {
     pub calls: u64,
