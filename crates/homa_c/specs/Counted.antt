@@ -14,5 +14,4 @@ all_counts c live kept rows =
 -- the count of this number; 0 where there is none
 abbrev pub count_of : Late → ℕ → ℕ
 count_of l which =
-    let host = l.driven.host.host in
-    unwrap_or (slice_get (all_counts l.driven.counts (len host.clients) (length l.calls) (len host.servers)) which) 0
+    unwrap_or (slice_get (all_counts l.driven.counts (len l.driven.host.host.clients) (length l.calls) (len l.driven.host.host.servers)) which) 0
