@@ -1,17 +1,24 @@
 #!/usr/bin/env bash
 # Times the store of examples/kv over loopback UDP: PUT and GET by turns, each response compared, each request answered at once.
 # Values have up to 100, 10,000 and 100,000 bytes; 1 and 4 clients, 1 and 16 calls at a time. Printed is of each row the middle of the rounds:
-# p50 and p99 of a call, calls a second of all clients, processor time a call of server and clients, and the most memory of the server. It
-# needs gcc and the archive (rt lib in crates/homa_c, or what is named). From the top: bench/store.sh [ROUNDS [ARCHIVE]]
+# p50 and p99 of a call, calls a second of all clients, processor time a call of server and clients, and the most memory of the server; at
+# the end what of the processors' time others took. It needs gcc. Timed is the archive that is named, or the proved one (rt lib in
+# crates/homa_c), or else one that it builds without proofs. From the top: bench/store.sh [ROUNDS [ARCHIVE]]
 set -eu
-case ${1-} in
+case ${1-1} in
 -h | --help) sed -n '2,/^set/s/^# \{0,1\}//p' "$0"; exit 0 ;;
+*[!0-9]* | "") echo "store.sh: a number is wanted, not '$1'" >&2; exit 2 ;;
 esac
 cd "$(dirname "$0")/.."
 kit=$(dirname "$(dirname "$(readlink -f "$(command -v rt)")")")
 at=$(mktemp -d)
 trap 'rm -rf "$at"' EXIT
-gcc -O2 -std=gnu11 -Iinclude examples/kv/*.c "${2:-crates/homa_c/out/libhoma_c.a}" "$kit/c/liblibc_c.a" -o "$at/kv"
+archive=${2:-crates/homa_c/out/libhoma_c.a}
+if [ $# -lt 2 ] && [ ! -e "$archive" ]; then
+    echo "store.sh: no proved library is here; one is built without proofs" >&2
+    archive=$(tools/build-unproved --library)
+fi
+gcc -O2 -std=gnu11 -Iinclude examples/kv/*.c "$archive" "$kit/c/liblibc_c.a" -o "$at/kv"
 python3 - "$at" "${1:-5}" <<'P'
 import os, re, statistics, subprocess, sys, tempfile
 at, rounds = sys.argv[1], int(sys.argv[2])
@@ -48,6 +55,11 @@ def once(most, calls, clients, at_a_time, port=[20000]):
     middle = [statistics.median(it[k] for it in numbers) for k in (3, 4)]
     return [*middle, sum(it[5] for it in numbers), 1e6 * processors / done, memory, calls // clients * clients - done]
 
+def clock():
+    with open("/proc/stat", encoding="ascii") as it:
+        return [int(word) for word in it.readline().split()[1:9]]
+
+began = clock()
 print("bytes at most, clients, at a time: p50 us, p99 us, calls a second, processor us a call, MB of the server, not done")
 for most, calls in ROWS:
     for clients in 1, 4:
@@ -55,4 +67,6 @@ for most, calls in ROWS:
             runs = [once(most, calls, clients, at_a_time) for _ in range(rounds)]
             p50, p99, rate, processor, memory, lost = [statistics.median(it) for it in zip(*runs)]
             print(f"{most}, {clients}, {at_a_time}: {p50:.0f}, {p99:.0f}, {rate:.0f}, {processor:.0f}, {memory:.0f}, {lost:.0f}", flush=True)
+took = [b - a for a, b in zip(began, clock())]
+print(f"processors: {100 * took[3] / sum(took):.0f}% idle, {100 * took[7] / sum(took):.1f}% stolen")
 P

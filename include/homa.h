@@ -250,7 +250,7 @@ HOMA_POINTERS uint32_t homa_deliver(homa_host *host, uint16_t from, const uint8_
  *   keeps the answer, and gives it to the next datagram that asks for the call.
  * LATER: the datagram is older than `keep`, and there was no step. The answer is kept as above. What is shown stays.
  * GONE: no such call waits for an answer. It was answered or declined, it had to make room, or it never asked. What is shown stays.
- * NO_MEMORY: the call waits on; nothing may be shown.
+ * NO_MEMORY: the call waits on. What is shown stays, or nothing is shown.
  * SPENT, NOT_OPEN, BAD_HOST, BAD_TICK, NO_BYTES, TOO_LONG, TOO_MANY_PAGES: the call waits on.
  *
  * A call isn't kept any more when a step ran it, when it is declined, or when it makes room. If another call asks and there is no room, the

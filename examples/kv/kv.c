@@ -88,8 +88,9 @@ static void print_counts(const char *more) {
     fprintf(stderr, "host %u, incarnation %u: ran %lu, done %lu, failed %lu, datagrams sent %lu, received %lu, of strangers %lu, not taken by the system %lu%s\n",
             self.net.id, self.identity.incarnation, (unsigned long)it.ran, (unsigned long)it.done, failed, self.net.sent, self.net.received, self.net.foreign,
             self.net.lost, more);
-    fprintf(stderr, "asked again %lu, too old %lu, no packets %lu, no row %lu, no pages %lu, given up %lu\n", (unsigned long)it.resends_sent,
-            (unsigned long)it.stale, (unsigned long)it.junk, (unsigned long)it.no_row, (unsigned long)it.no_pages, (unsigned long)it.dropped);
+    fprintf(stderr, "asked again %lu, too old %lu, no packets %lu, no row %lu, no pages %lu, given up %lu, rows in use %lu\n", (unsigned long)it.resends_sent,
+            (unsigned long)it.stale, (unsigned long)it.junk, (unsigned long)it.no_row, (unsigned long)it.no_pages, (unsigned long)it.dropped,
+            (unsigned long)it.rows);
 }
 
 /* Waits for datagrams, for a signal, or until a tick. */

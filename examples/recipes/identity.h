@@ -3,8 +3,8 @@
 /* The incarnation and the last tick of a host in a file.
  *
  * A crash leaves no time to write. So the file has a tick that is ahead: it is written anew before a step has a later one. A host that
- * opens again begins at that tick. So it waits until its clock is there before it opens: with version 2, what it sends before is from the
- * future, and nobody takes it. */
+ * opens again begins at that tick. So it waits until its clock is there before it opens: with version 2 a host whose clock is ahead takes
+ * what the others send for too old. */
 #include <fcntl.h>
 #include <stdbool.h>
 #include <stdint.h>

@@ -170,8 +170,8 @@ static void knows_itself(node *n) {
     homa_counts counts;
     homa_counts_of(&n->host, &counts);
     n->counts.live = n->live;
-    n->counts.rows = counts.rows; /* no entry tells that a row came: it has the calls that are remembered, and no more than fit */
-    CHECK(counts.rows + counts.freed >= counts.buried && counts.rows <= settings.served);
+    n->counts.rows = counts.rows; /* those of calls that ran and aren't forgotten, and of requests that aren't whole */
+    CHECK(counts.rows <= settings.served && counts.rows >= counts.ran - counts.freed);
     CHECK(memcmp(&counts, &n->counts, sizeof counts) == 0 && homa_count(&n->host, HOMA_COUNTS + (uint32_t)any(1000)) == 0);
     CHECK(homa_live(&n->host) == n->live && homa_last(&n->host) == n->last);
 }

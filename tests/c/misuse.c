@@ -50,7 +50,7 @@ static void closed(homa_host *host, const char *what) {
     check(homa_entry_more(host, 0, &more) == HOMA_NOT_OPEN && is_filled(&more, sizeof more), what);
     check(homa_whole(host, room, 100, &len) == HOMA_NOT_OPEN && is_filled(&len, sizeof len), what);
     check(homa_live(host) == 0 && homa_last(host) == 0 && homa_count(host, HOMA_COUNT_RECEIVED) == 0, what);
-    check(homa_count(host, HOMA_COUNT_KEPT) == 0, what);
+    check(homa_count(host, HOMA_COUNT_KEPT) == 0 && homa_count(host, HOMA_COUNT_ROWS) == 0, what);
     check(is_filled(room, 100), what);
     check(host->at == was.at && !host->is_open, what);
 }

@@ -63,6 +63,8 @@ static uint32_t comes(uint16_t to, uint16_t from, size_t i, uint64_t now, size_t
     return homa_deliver(&hosts[to], from, kept[i].bytes, kept[i].len, now, bytes, answer, &asked);
 }
 
+static uint64_t rows_of_server(void) { return homa_count(&hosts[SERVER], HOMA_COUNT_ROWS); }
+
 /* Whether the host's last step has exactly one entry of this kind, with this call, peer and numbers. */
 static bool tells(uint16_t host, uint32_t kind, const homa_call_id *id, size_t len, uint16_t peer, uint64_t at) {
     homa_entry_info it;
@@ -113,7 +115,7 @@ static void a_call(bool is_acked) {
     CHECK(comes(SERVER, CLIENT, 0, 12, 0) == HOMA_ASKS && homa_entries(&hosts[SERVER]) == 0);
     CHECK(homa_count(&hosts[SERVER], HOMA_COUNT_ASKED) == 1 && homa_count(&hosts[SERVER], HOMA_COUNT_RECEIVED) == 0);
     CHECK(comes(SERVER, CLIENT, 0, 12, 23) == HOMA_OK && tells(SERVER, HOMA_RAN, &id, 11, CLIENT, 0) && keep_frames(SERVER) == 1);
-    CHECK(tells(SERVER, HOMA_SENT, &id, 23, CLIENT, 1));
+    CHECK(tells(SERVER, HOMA_SENT, &id, 23, CLIENT, 1) && rows_of_server() == 1 && homa_count(&hosts[CLIENT], HOMA_COUNT_ROWS) == 0);
     CHECK(comes(CLIENT, SERVER, 0, 13, 0) == HOMA_OK && tells(CLIENT, HOMA_DONE, &id, 23, SERVER, 0) && homa_live(&hosts[CLIENT]) == 0);
     uint64_t buried = 0, freed = 0, until = 0;
     for (uint64_t now = 13; now < 200 && !freed; now++) {
@@ -130,6 +132,7 @@ static void a_call(bool is_acked) {
             freed = now;
             CHECK(tells(SERVER, HOMA_FREED, &id, 0, CLIENT, 0));
         }
+        CHECK(rows_of_server() == (freed ? 0 : 1));
     }
     CHECK(buried == (is_acked ? 16 : 12 + 24) && freed == until + 1); /* it asks for an ACK at 16, and after its patience gives up */
     homa_counts counts;
@@ -158,6 +161,34 @@ static void junk_and_stale(void) {
     close_all();
 }
 
+/* What a host sends that has another version, and then what two send whose clocks are too far apart: who is ahead tells `stale`. */
+static void hosts_that_differ(void) {
+    homa_call_id id;
+    begin();
+    open_all(1, 0);
+    CHECK(homa_close(&hosts[SERVER]) == HOMA_OK);
+    settings.wire = 2;
+    CHECK(homa_open(&settings, SERVER, 1, 0, &hosts[SERVER]) == HOMA_OK);
+    called(CLIENT, 5, 0);
+    CHECK(keep_frames(CLIENT) == 1 && comes(SERVER, CLIENT, 0, 0, 0) == HOMA_OK && tells(SERVER, HOMA_JUNK, NULL, 0, CLIENT, 0));
+    CHECK(homa_call(&hosts[SERVER], CLIENT, 7, bytes, 5, 0, &id) == HOMA_OK && keep_frames(SERVER) == 1);
+    CHECK(comes(CLIENT, SERVER, 0, 0, 0) == HOMA_OK && tells(CLIENT, HOMA_JUNK, NULL, 0, SERVER, 0));
+    close_all();
+    begin();
+    settings.wire = 2;
+    settings.skew = 3;
+    open_all(1, 0);
+    uint64_t ahead = settings.life + 2 * settings.skew + 1;
+    id = called(CLIENT, 5, ahead);
+    CHECK(keep_frames(CLIENT) == 1 && comes(SERVER, CLIENT, 0, 0, 5) == HOMA_OK && tells(SERVER, HOMA_RAN, &id, 5, CLIENT, 0));
+    CHECK(keep_frames(SERVER) == 1 && comes(CLIENT, SERVER, 0, ahead, 0) == HOMA_OK && tells(CLIENT, HOMA_STALE, NULL, 0, SERVER, 0));
+    CHECK(homa_live(&hosts[CLIENT]) == 1);
+    called(OTHER, 5, 0);
+    CHECK(homa_turn(&hosts[SERVER], ahead) == HOMA_OK && keep_frames(OTHER) == 1);
+    CHECK(comes(SERVER, OTHER, 0, ahead, 0) == HOMA_OK && tells(SERVER, HOMA_STALE, NULL, 0, OTHER, 0));
+    close_all();
+}
+
 /* A request of three pages comes in part, for which there are one row and four pages; then another, of one packet, and one of two pages. */
 static void no_row_and_no_pages(void) {
     for (uint32_t served = 1; served <= 2; served++) {
@@ -167,8 +198,9 @@ static void no_row_and_no_pages(void) {
         open_all(1, 0);
         called(CLIENT, 9000, 0);
         CHECK(keep_frames(CLIENT) > 1 && comes(SERVER, CLIENT, 0, 0, 0) == HOMA_OK);
+        CHECK(rows_of_server() == 1);
         homa_call_id id = called(OTHER, served == 1 ? 5 : 5000, 0);
-        CHECK(keep_frames(OTHER) > 0 && comes(SERVER, OTHER, 0, 0, served == 1) == HOMA_OK);
+        CHECK(keep_frames(OTHER) > 0 && comes(SERVER, OTHER, 0, 0, served == 1) == HOMA_OK && rows_of_server() == 1);
         if (served == 1) CHECK(tells(SERVER, HOMA_NO_ROW, &id, 1, OTHER, 1) && homa_count(&hosts[SERVER], HOMA_COUNT_NO_ROW) == 1);
         else CHECK(tells(SERVER, HOMA_NO_PAGES, &id, 2, OTHER, 1) && homa_count(&hosts[SERVER], HOMA_COUNT_NO_PAGES) == 1);
         close_all();
@@ -195,7 +227,7 @@ static void gaps_and_dropped(void) {
     CHECK(told && came == 64 && tells(SERVER, HOMA_GAPS, &id, 0, OTHER, 0));
     uint64_t now = 10;
     for (; now < 200 && !homa_count(&hosts[SERVER], HOMA_COUNT_DROPPED); now++) CHECK(homa_turn(&hosts[SERVER], now) == HOMA_OK);
-    CHECK(now < 200 && tells(SERVER, HOMA_DROPPED, &id, 0, OTHER, 0) && homa_count(&hosts[SERVER], HOMA_COUNT_RESENDS_SENT) >= settings.tries);
+    CHECK(rows_of_server() == 0 && now < 200 && tells(SERVER, HOMA_DROPPED, &id, 0, OTHER, 0) && homa_count(&hosts[SERVER], HOMA_COUNT_RESENDS_SENT) >= settings.tries);
     close_all();
 }
 
@@ -301,6 +333,7 @@ int main(void) {
     a_call(false);
     a_call(true);
     junk_and_stale();
+    hosts_that_differ();
     no_row_and_no_pages();
     gaps_and_dropped();
     timeout_and_forgotten();
