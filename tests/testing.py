@@ -50,19 +50,30 @@ def outcome(test):
     return "passed", None
 
 
+def times():
+    """The clock, and the processor time of this process and of those that it waited for."""
+    return time.monotonic(), sum(os.times()[:4])
+
+
+def spent(began):
+    """The seconds since then, by the clock and of processors."""
+    clock, used = (now - then for now, then in zip(times(), began))
+    return f"{clock:6.1f} s, {used:6.1f} s of processors"
+
+
 def count(name, tests, words):
     """Runs the tests whose names have one of the words; status 1 if one failed, 2 if none is chosen."""
     says_times, words = "--times" in words, [it for it in words if it != "--times"]
     chosen = [it for it in tests if not words or any(word in it.__name__ for word in words)]
     counts = {"passed": 0, "failed": 0, "skipped": 0}
     for test in chosen:
-        began = time.monotonic()
+        began = times()
         how, why = outcome(test)
         counts[how] += 1
         if why:
             print(why, flush=True)
         if says_times:
-            print(f"{time.monotonic() - began:6.1f} s  {test.__name__}", flush=True)
+            print(spent(began), f" {test.__name__}", flush=True)
     print(f"{name}: " + ", ".join(f"{many} {how}" for how, many in counts.items()))
     return 1 if counts["failed"] else 0 if chosen else 2
 
