@@ -10,8 +10,8 @@
 ghost use Rattle.node_trace_laws.specs.Honest.{NodeTracesObey, NoneIsBroken, UsualIsHonest};
 ghost use Rattle.node_trace_laws.specs.Taken.{WholeTextsObey, FrontsObey};
 
-/// Up to the first packet that the net made up or held too long, the lines of a node obey the laws, whatever its services answer
-/// with 1 to 1,000,000 bytes and a hold of at most 1,000,000 ticks, and however its run goes on or breaks off. Let each
+/// Up to the first packet that the net made up or held too long, the lines of a node obey the laws, however its run goes on or
+/// breaks off. Its services answer 1 to 1,000,000 bytes, with a hold of at most 1,000,000 ticks. Let each
 /// datagram in the first n lines be no packet, or one that was sent before in this run to this host by this sender,
 /// with version 1 in the last `life` ticks. Then these lines have the shape and obey all five laws, the last line too.
 /// Where that is so of all lines, a judge finds none that breaks a law.
