@@ -289,7 +289,7 @@ HOMA_POINTERS uint32_t homa_entry(homa_host *host, size_t i, homa_entry_info *in
 /* What more entry `i` tells. NOT_THERE, NOT_OPEN: nothing is written. */
 HOMA_POINTERS uint32_t homa_entry_more(homa_host *host, size_t i, homa_more_info *more);
 
-/* How many bytes the message has that became whole in the last step: 1 to 1,000,000, which no clause says, or 0 where none did. It is the
+/* How many bytes the message has that became whole in the last step: 1 to 1,000,000, or 0 where none did. It is the
  * request that is asked about or was answered (HOMA_RAN), or the response of a call that is done (HOMA_DONE). A step makes one message whole
  * at most. */
 HOMA_POINTERS size_t homa_whole_len(homa_host *host);
