@@ -140,7 +140,7 @@ static void after_some_ticks(void) {
         run(400);
         bool is_done = len > 1400 || at <= 24;
         CHECK(told == 1 && ran == 1 && done == is_done && timeouts == !is_done && kept() == 0);
-        CHECK(rows(SERVER) == 1 && rows(CLIENT) == 0); /* what is remembered of the call */
+        CHECK(rows(SERVER) == 1 && rows(1) == 0); /* what is remembered of the call */
     }
     CHECK(again == 49);
     begin();
