@@ -3,8 +3,9 @@ use Rattle.std.proofs.Common.{◌≡◌, ℕ, zero, suc, ◌+◌, ◌<◌, ◌�
 use Rattle.std.proofs.Common.{sym, ap, ◌∙◌, Decides, subst}
 use Rattle.std.specs.Prelude.{if◌then◌else◌, ◌==◌, is_some, slice_get, slice_set, position}
 use Rattle.std.specs.Option.{option_map}
-use Rattle.std.specs.List.{position_from}
+use Rattle.std.specs.List.{position_from, AllByRecursion, IsDistinct}
 use Rattle.std.proofs.lemmas.Iterator.Adapters.{position_from-zero}
+use Rattle.std.proofs.lemmas.Map.Keys.{IsDistinct-head, IsDistinct-tail}
 use Rattle.std.proofs.lemmas.Bool.{eqb-true, eq-eqb, true≢false}
 use Rattle.homa_plain.specs.declared.id.CallId.{CallId}
 use Rattle.homa_plain.specs.Calls.{is_call}
@@ -93,6 +94,38 @@ pub place_none : (t : CallId → Bool) (ks : List CallId) (cs : List Call) (q : 
     → call_in ks cs q ≡ None
 place_none t ks cs q same h =
     none_from ks cs q 0 (sym (position_from-zero (is_call q) ks) ∙ (sym (ap (λ (f : CallId → Bool). position f ks) (λ i k. same k i)) ∙ h))
+
+-- ---- an id that stands at a known place
+
+other_side : (a b : CallId) → is_call a b ≡ false → is_call b a ≡ false
+other_side a b h =
+    elim (is_call b a) as (λ x. is_call b a ≡ x → is_call b a ≡ false)
+    [ true ↦ λ t. absurd (true≢false (sym ((calls_are a b).1 (sym ((calls_are b a).0 t))) ∙ h)) | false ↦ λ t. t ] refl
+
+one_of_all : {A : Type 0} (P : A → Type 0) (xs : List A) (n : ℕ) (x : A) → AllByRecursion P xs → slice_get xs n ≡ Some x → P x
+one_of_all P [] n x all h = absurd cc
+one_of_all P (y ∷ ys) zero x all h = subst P (some_is y x h) all.0
+one_of_all P (y ∷ ys) (suc n) x all h = one_of_all P ys n x all.1 h
+
+known_from : (t : CallId → CallId → Bool) (ks : List CallId) (q k : CallId) (n i : ℕ) → ((a b : CallId) → t a b ≡ is_call a b) → IsDistinct t ks
+    → slice_get ks n ≡ Some k → is_call q k ≡ true → position_from (is_call q) i ks ≡ Some (i + n)
+known_from t [] q k n i same apart h e = absurd cc
+known_from t (x ∷ ks) q k zero i same apart h e =
+    ap (λ b. cond b (Some i) (position_from (is_call q) (i + 1) ks)) (ap (is_call q) (some_is x k h) ∙ e) ∙ ap (λ m. Some m) (omega arith)
+known_from t (x ∷ ks) q k (suc n) i same apart h e =
+    let first : is_call x k ≡ false = sym (same x k) ∙ one_of_all (λ y. t x y ≡ false) ks n k (IsDistinct-head t x ks apart) h in
+    let own : is_call q x ≡ false = ap (λ (c : CallId). is_call c x) ((calls_are q k).0 e) ∙ other_side x k first in
+    ap (λ b. cond b (Some i) (position_from (is_call q) (i + 1) ks)) own
+    ∙ (known_from t ks q k n (i + 1) same (IsDistinct-tail t x ks apart) h e ∙ ap (λ m. Some m) (omega arith))
+
+-- of ids that differ
+pub place_known : (t : CallId → CallId → Bool) (ks : List CallId) (q k : CallId) (n : ℕ) → ((a b : CallId) → t a b ≡ is_call a b) → IsDistinct t ks
+    → slice_get ks n ≡ Some k → is_call q k ≡ true → position (is_call q) ks ≡ Some n
+place_known t ks q k n same apart h e = position_from-zero (is_call q) ks ∙ (known_from t ks q k n 0 same apart h e ∙ ap (λ m. Some m) (omega arith))
+
+-- the test may be written otherwise
+pub place_by : (t : CallId → Bool) (ks : List CallId) (q : CallId) → ((k : CallId) → t k ≡ is_call q k) → position t ks ≡ position (is_call q) ks
+place_by t ks q same = ap (λ (f : CallId → Bool). position f ks) (λ i k. same k i)
 
 -- ---- what stands there
 

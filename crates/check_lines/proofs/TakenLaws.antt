@@ -22,7 +22,7 @@ use Rattle.check_call.specs.declared.call.Call.{Call}
 use Rattle.check_call.specs.Calls.{called_of}
 use Rattle.check_lines.specs.declared.block.Delivery.{Delivery}
 use Rattle.check_lines.specs.declared.trace.Trace.{Trace}
-use Rattle.check_lines.specs.Traces.{Follows, beside_at, IsCallAt, IsDelivered, IsHere, call_at, due_of}
+use Rattle.check_lines.specs.Traces.{Follows, Keeps, beside_at, IsCallAt, IsDelivered, IsHere, call_at, due_of}
 use Rattle.check_lines.specs.Changes.{Ready, Takes, IsTaken, SameNumbers}
 use Rattle.check_lines.proofs.LineLaws.{both}
 use Rattle.check_lines.proofs.TakeLaws.{keeps_rest, delivered_on}
@@ -119,3 +119,37 @@ taken_is v o t mid u line f r takes same small e place ended =
 
 pub ready : (v : View) (t : Trace) → (f : Follows v t) → Ready v f.block.undo t
 ready v t f = record { kept = f.kept; is = f.block.is; delivered = f.block.kept; due = f.block.due; here = f.block.here }
+
+-- ---- a call is looked up
+
+-- where a call was looked up is no part of what is kept
+pub looked_up : (v : View) (t u : Trace) → u ≡ record t { recent = u.recent } → Follows v t → Follows v u
+looked_up v t u e f = subst (Follows v) (sym e) (record {
+  place = f.place;
+  ended = f.ended;
+  kept = kept;
+  block = record {
+    undo = f.block.undo;
+    is = f.block.is;
+    kept = delivered_on t w f.block.undo (λ q. refl) refl f.block.kept;
+    due = f.block.due;
+    here = f.block.here;
+  };
+  within = f.within;
+  first = f.first;
+}) where
+  w : Trace
+  w = record t { recent = u.recent }
+
+  kept : Keeps v w
+  kept = record {
+    settings = f.kept.settings;
+    wire = f.kept.wire;
+    tick = f.kept.tick;
+    hosts = f.kept.hosts;
+    listed = f.kept.listed;
+    aligned = f.kept.aligned;
+    calls = f.kept.calls;
+    packets = f.kept.packets;
+    made = f.kept.made;
+  }

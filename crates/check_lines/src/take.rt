@@ -665,6 +665,27 @@ impl Trace {
         }
     }
 
+    // Where the call of the packet with this number stands, if it was sent.
+    fn find_packet(&self, number: u64) -> Option<usize> {
+        self.find(self.packet(number)?.id)
+    }
+
+    /// Notes where the call of a packet stands, whose sending or delivery a line tells: the next look-ups are of it.
+    #[tactic(auto, using(crate::proofs::TakenLaws::looked_up))]
+    pub fn look_up(&mut self, line: &Entry<'_>)
+        ensures kept { (v : View) → Follows v self.old → Follows v self.new }
+        ensures same { self.new ≡ record self.old { recent = self.new.recent } }
+    {
+        let found = match line {
+            Entry::Send { id, .. } => self.find(*id),
+            Entry::Deliver { packet } => self.find_packet(*packet),
+            _ => None,
+        };
+        if let Some(at) = found {
+            self.recent = at;
+        }
+    }
+
     /// The call whose messages are to be tested behind a line, if any.
     pub fn to_test(&self, line: &Entry<'_>) -> Option<CallId>
         ensures { result ≡ tested self.now.delivery (plain line.now) }

@@ -1,5 +1,5 @@
 // What is kept of the lines of a trace.
-ghost use Rattle.std.specs.Prelude.{◌≡◌, ◌+◌, ◌<◌, ◌≤◌, Some, None, length, slice_get, unwrap_or, max, IfSome, IfNone, is_some, OnOk};
+ghost use Rattle.std.specs.Prelude.{◌≡◌, ◌+◌, ◌<◌, ◌≤◌, Some, None, length, position, slice_get, unwrap_or, max, IfSome, IfNone, is_some, OnOk};
 ghost use Rattle.check_lines.specs.Changes.{SameHosts, SameLists, SameRest, SameSets, Notes, StandsAt, Changes, call_or, noted};
 ghost use Rattle.check_lines.specs.Traces.{call_at, host_at, IsPlace, lead_of, life_in, lives_in, own_tick_in, Follows, Keeps};
 ghost use Rattle.check_lines.specs.Traces.{asked_of, awaited_of, incoming_of, other};
@@ -7,10 +7,11 @@ ghost use Rattle.check_laws.specs.Spots as spots;
 ghost use Rattle.check_call.specs.Calls.{spot_in};
 ghost use Rattle.check_call.specs.Kept.{Beside, StandsFor, is_incoming};
 ghost use Rattle.trace_rules.specs.View.{nothing_seen, View};
+ghost use Rattle.homa_plain.specs.Calls.{is_call};
 ghost use Rattle.homa_plain.specs.declared.id.CallId.{CallId as ACall};
 ghost use Rattle.homa_plain.specs.declared.id.HostId.{HostId as AHost};
 
-use crate::block::{Delivery, Here};
+use crate::block::{Delivery, Here, is_same};
 use crate::host::Host;
 use check_call::{Call, Lives, OwnTick, Packet, Spot};
 use homa_plain::{CallId, HostId, Role, Settings};
@@ -27,6 +28,8 @@ pub struct Trace {
     pub tick: u64,
     pub hosts: Vec<Host>,
     pub ids: IndexSet<CallId>,
+    /// Where the call may stand that was looked up last.
+    pub recent: usize,
     pub calls: Vec<Call>,
     pub packets: Vec<Packet>,
     pub here: Here,
@@ -45,6 +48,7 @@ impl Trace {
             tick: 0,
             hosts: Vec::new(alloc),
             ids: IndexSet::new(alloc),
+            recent: 0,
             calls: Vec::new(alloc),
             packets: Vec::new(alloc),
             here: Here::NONE,
@@ -58,11 +62,21 @@ impl Trace {
         ensures none { IfNone result (call_at self.now id ≡ None) }
         ensures found { is_some result ≡ is_some (call_at self.now id) }
     {
-        let at = self.ids.get_index_of(&id)?;
+        let at = self.index_of(id)?;
         if at < self.calls.len() {
             Some(at)
         } else {
             None
+        }
+    }
+
+    // Where a call's id stands. Most look-ups are of the call that was looked up last, so its place is tried first.
+    fn index_of(&self, id: CallId) -> Option<usize>
+        ensures { result ≡ position (is_call id) self.now.ids.keys }
+    {
+        match self.ids.as_slice().get(self.recent) {
+            Some(there) if is_same(id, *there) => Some(self.recent),
+            _ => self.ids.get_index_of(&id),
         }
     }
 

@@ -46,8 +46,8 @@ form_name Stalled = codes "stalled"
 
 -- all forms of lines
 abbrev pub forms : List Form
-forms = Settings ∷ Call ∷ Deliver ∷ Clock ∷ Restart ∷ Inject ∷ Shift ∷ Junk ∷ Stale ∷ Send ∷ Run ∷ Done ∷ Fail ∷ Drop ∷ Gaps ∷ Bury ∷ Free ∷ Full ∷
-    Balance ∷ Recv ∷ Finished ∷ Refused ∷ Stalled ∷ []
+forms = Send ∷ Deliver ∷ Clock ∷ Free ∷ Bury ∷ Call ∷ Run ∷ Done ∷ Fail ∷ Drop ∷ Stale ∷ Gaps ∷ Full ∷ Recv ∷ Inject ∷ Junk ∷ Restart ∷
+    Shift ∷ Balance ∷ Settings ∷ Finished ∷ Refused ∷ Stalled ∷ []
 
 -- the form whose name a word is
 unfoldable pub form_of : List ℕ → Option Form

@@ -51,6 +51,7 @@ pub(crate) fn step_entry(
     ensures judged { IfOk result (λ r. (v : View) → Follows v trace.old → v.place < 2 ^ 64 - 1 → option_map clause_of r ≡ judged v (plain line.now)) }
     ensures next { IfOk result (λ r. (v : View) → Follows v trace.old → v.place < 2 ^ 64 - 1 → r ≡ None → Follows (seen_with v (plain line.now)) trace.new) }
 {
+    trace.look_up(line);
     match judge(alloc, trace, line)? {
         Some(clause) => Ok(Some(clause)),
         None => take_judged(alloc, trace, line),

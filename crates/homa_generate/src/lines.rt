@@ -17,11 +17,11 @@ use crate::{Counts, GenerateWorld};
 use arrayvec::ArrayVec;
 use homa_fabric::{Fabric, Traffic};
 use homa_io::{Sink, WriteFailed, write_all};
-use homa_plain::Event;
+use homa_plain::{Entry, Event};
 use homa_replay::{ReplayWorld, Stop};
 use homa_script::put_event;
 use homa_text::Word::{Host, Number, Text};
-use homa_text::put_line;
+use homa_text::{put_entry, put_line};
 use itoa::Buffer;
 use std::alloc::AllocError;
 
@@ -69,13 +69,13 @@ fn put_call<K: Sink>(sink: &mut K, t: &Traffic) -> Result<(), WriteFailed>
 }
 
 // Prints a line.
-#[tactic(auto, unfolding(homa_plain::specs::Script::event_text))]
+#[tactic(auto, unfolding(homa_plain::specs::Script::event_text, homa_plain::specs::Text::line_text))]
 fn put<K: Sink>(sink: &mut K, line: &Line) -> Result<(), WriteFailed>
     ensures { IsWritten K.taken K.faults K.is_same result sink.old sink.new (given_text (given_of line.now)) }
 {
     match line {
         Line::Tick => write_all(sink, b"tick\n"),
-        Line::Deliver(number) => put_line(sink, &[Text(b"deliver"), Number(*number)]),
+        Line::Deliver(number) => put_entry(sink, &Entry::Deliver { packet: *number }),
         Line::Call(t) => put_call(sink, t),
     }
 }
