@@ -10,8 +10,6 @@ mod calls;
 mod figures;
 mod interval;
 mod ranks;
-#[cfg(test)]
-mod tests;
 mod transfer;
 mod transfers;
 

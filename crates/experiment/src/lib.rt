@@ -23,8 +23,6 @@ mod sizes;
 mod statement;
 mod steps;
 mod tables;
-#[cfg(test)]
-mod tests;
 mod trial;
 mod verbs;
 mod workload;

@@ -18,8 +18,6 @@ mod packet;
 mod paths;
 mod stop;
 mod tally;
-#[cfg(test)]
-mod tests;
 
 pub use event::{Begun, Reached, Task};
 pub use fates::Fates;

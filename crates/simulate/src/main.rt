@@ -16,8 +16,6 @@ mod running;
 mod slowdown_rows;
 mod summary;
 mod tally;
-#[cfg(test)]
-mod tests;
 mod totals;
 mod values;
 mod warnings;

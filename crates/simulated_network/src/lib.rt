@@ -14,8 +14,6 @@ mod outcome;
 mod receivers;
 mod step;
 mod tasks;
-#[cfg(test)]
-mod tests;
 mod trouble;
 mod window;
 

@@ -14,8 +14,6 @@ mod running;
 mod services;
 mod setup;
 mod stop;
-#[cfg(test)]
-mod tests;
 
 pub use host_network::HostNetwork;
 pub use running::{Far, Telling, simulate};

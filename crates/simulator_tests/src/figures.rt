@@ -1,5 +1,5 @@
 // Each public function, with values worked out by hand.
-use crate::{
+use call_figures::{
     CallEnd, Figures, Interval, Rank, SimCall, SimCalls, Transfer, Transfers, call_alone,
     message_alone, rank_of, response_to,
 };

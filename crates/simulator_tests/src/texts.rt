@@ -1,5 +1,5 @@
 // Each public function once, with values worked out by hand.
-use crate::{
+use experiment::{
     Amount, Draws, Experiment, ExperimentFault, Framing, PacketName, Step, Workload, Wrong, gap_of,
     read, wire_of_call,
 };

@@ -1,8 +1,8 @@
 // Runs of small experiments, with lines that a world could tell. Moments are worked out by hand.
-use crate::{RunStep, SentDatagram, SimulatedNetwork};
 use experiment::{Experiment, read};
 use homa_io::MemSource;
 use homa_plain::{Body, CallId, Entry, Event, HostId, Role};
+use simulated_network::{RunStep, SentDatagram, SimulatedNetwork};
 use std::alloc::Global;
 use std::process::Abort;
 

@@ -1,10 +1,10 @@
 // Packets whose ways are worked out by hand. A byte takes 800 ps; a link 700 ns; the switch 250 ns; a host 100 ns.
 ghost use Rattle.std.specs.Prelude.{◌<◌};
 
-use crate::{Fates, PacketCause, PacketNetwork, Reached, SimPacket, Task};
 use experiment::{PacketName, read};
 use homa_io::MemSource;
 use homa_plain::HostId;
+use packet_network::{Fates, PacketCause, PacketNetwork, Reached, SimPacket, Task};
 use std::alloc::Global;
 use std::process::Abort;
 

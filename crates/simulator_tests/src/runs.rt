@@ -1,10 +1,10 @@
 // Whole runs, whose schedules were worked out by hand.
-use crate::{Far, SimStop, Telling, simulate, suites};
 use experiment::{Experiment, ExperimentFault, read};
 use homa_io::{MemSink, MemSource};
 use homa_service::Suite;
 use homa_world::World;
 use simulated_network::RunOutcome;
+use simulation::{Far, SimStop, Telling, simulate, suites};
 use std::alloc::Global;
 use std::process::Abort;
 
