@@ -1,1 +1,3 @@
 mod StandingLaws
+mod ReceiverLaws
+mod OrderLaws

@@ -4,6 +4,7 @@ pub mod Standing
 pub mod Outlets
 pub mod Flows
 pub mod States
+pub mod Agendas
 pub mod Paths
 pub mod Networks
 pub mod Measures

@@ -1,8 +1,9 @@
 -- What was measured at queues.
-use Rattle.std.specs.Prelude.{ℕ, ◌+◌, ◌-◌, ◌*◌, ◌^◌, min, max, List, slice_index}
+use Rattle.std.specs.Prelude.{ℕ, ◌+◌, ◌-◌, ◌*◌, ◌^◌, min, max, List, map, slice_index}
 use Rattle.std.specs.List.{fold}
 use Rattle.run_gauges.specs.declared.gauge.Gauge.{Gauge}
 use Rattle.packet_network.specs.declared.measure.Waits.{Waits}
+use Rattle.packet_network.specs.declared.measure.Level.{Level}
 use Rattle.packet_network.specs.declared.measure.Down.{Down}
 use Rattle.packet_network.specs.declared.outlet.Outlet.{Outlet}
 use Rattle.packet_network.specs.declared.tally.QueueTally.{QueueTally}
@@ -33,9 +34,29 @@ with_queue at q sum = record {
 abbrev pub waits_of : (at : ℕ) → List Outlet → Waits
 waits_of at os = fold (λ sum o. with_queue at o.tally sum) no_waits os
 
--- the bytes that passed at a level of all of these
-abbrev pub passed_at : (level : ℕ) → List Outlet → ℕ
-passed_at level os = fold (λ sum o. min (sum + slice_index o.tally.passed level) (2 ^ 64 - 1)) 0 os
+-- nothing waited or passed at a level
+abbrev pub no_level : Level
+no_level = record { most = 0; area = 0; passed = 0 }
+
+-- what waited and passed at a level of one queue more, up to a moment
+abbrev pub with_level : (at level : ℕ) → QueueTally → Level → Level
+with_level at level q sum = record {
+  most = max sum.most (slice_index (map (λ g. g.most) q.levels) level);
+  area = min (sum.area + slice_index (map (λ g. area_of g at) q.levels) level) (2 ^ 128 - 1);
+  passed = min (sum.passed + slice_index q.passed level) (2 ^ 64 - 1);
+}
+
+-- what waited and passed at a level of all of these, up to a moment
+abbrev pub level_of : (at level : ℕ) → List Outlet → Level
+level_of at level os = fold (λ sum o. with_level at level o.tally sum) no_level os
+
+-- for how long the link of one was taken up to a moment, from the beginning on
+abbrev pub taken_ever : (at : ℕ) → Outlet → ℕ
+taken_ever at o = o.link.taken - (o.link.free - at)
+
+-- the same since counting began anew
+abbrev pub taken_to : (at : ℕ) → Outlet → ℕ
+taken_to at o = taken_ever at o - o.taken
 
 -- the bytes that wait at one
 abbrev pub bytes_at : Outlet → ℕ

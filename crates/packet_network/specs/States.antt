@@ -1,8 +1,11 @@
 -- A network, as contracts see it.
-use Rattle.std.specs.Prelude.{◌≡◌, ℕ, List, Option, None, Some}
+use Rattle.std.specs.Prelude.{◌≡◌, ℕ, List, Option, None, Some, slice_index_or, slice_set}
+use Rattle.network_parts.specs.Dues.{Calendar}
+use Rattle.run_gauges.specs.Receivers.{Known, nothing_known}
 use Rattle.packet_network.specs.declared.fates.Fates.{Fates}
 use Rattle.packet_network.specs.declared.measure.Down.{Down}
 use Rattle.packet_network.specs.declared.outlet.Outlet.{Outlet}
+use Rattle.packet_network.specs.declared.event.NetworkEvent.{NetworkEvent}
 use Rattle.packet_network.specs.declared.event.Reached.{Reached}
 use Rattle.packet_network.specs.declared.event.Reached.TheVariants.{Task, Card, Output, AtHost, Nothing}
 
@@ -17,6 +20,16 @@ pub record NetworkState : Type 0 where
   pub cards : List Outlet
   pub outputs : List Outlet
   pub down : Down
+
+-- a network with all that is due in it, and with what is known of each receiver
+pub record WholeNetwork : Type 0 where
+  pub state : NetworkState
+  pub agenda : Calendar NetworkEvent
+  pub receivers : List Known
+
+-- what is known of the receiver with this number changes so
+abbrev pub at_receiver : (host : ℕ) → (Known → Known) → List Known → List Known
+at_receiver host change rs = slice_set rs host (change (slice_index_or rs host (nothing_known 0)))
 
 -- how many packets came to their host
 abbrev pub arrived : Option Reached → ℕ

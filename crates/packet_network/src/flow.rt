@@ -1,5 +1,5 @@
 // What is due, and what became of packets.
-ghost use Rattle.std.specs.Prelude.{◌≡◌, ◌≤◌, ◌<◌, ◌+◌, ◌^◌, length, true, false, None, Ok, IfOk, IfSome, OnOk, OnErr};
+ghost use Rattle.std.specs.Prelude.{◌≡◌, ◌≤◌, ◌<◌, ◌+◌, ◌^◌, [], length, true, false, None, Ok, IfOk, IfSome, OnOk, OnErr};
 ghost use Rattle.packet_network.specs.Standing.{in_agenda, carried};
 ghost use Rattle.packet_network.specs.Censuses.{one_sent, one_repeated, one_lost, one_refused, one_delivered, IsStill};
 
@@ -30,6 +30,7 @@ const MOST: u64 = 1 << 62;
 
 impl Flow {
     ghost use Rattle.packet_network.specs.Flows.{outside, IsInTime};
+    ghost use Rattle.packet_network.specs.Agendas.{IsEntered, IsNext};
     ghost use Rattle.packet_network.specs.Outlets.{waiting_at_all};
 
     /// The moment of what came last, if the run may go on.
@@ -48,7 +49,10 @@ impl Flow {
     /// A task is due at a moment, or now where that is over.
     #[tactic(auto, using(crate::proofs::StandingLaws::one_due))]
     pub(crate) fn enter(&mut self, at: u64, task: Task) -> Result<(), NetworkStop>
+        ensures entered { OnOk result (IsEntered at task self.old.agenda self.new.agenda) }
+        ensures refused { OnErr result (self.new.agenda ≡ self.old.agenda) }
         ensures census { self.new.census ≡ self.old.census }
+        ensures receivers { self.new.receivers ≡ self.old.receivers }
         ensures moment { self.new.agenda.moment ≡ self.old.agenda.moment }
         ensures packets { in_agenda self.new.agenda.dues ≡ in_agenda self.old.agenda.dues }
     {
@@ -64,6 +68,7 @@ impl Flow {
         ensures sent { self.new.census.fates.sent ≡ self.old.census.fates.sent }
         ensures under_way { self.new.census.under_way ≡ self.old.census.under_way }
         ensures agenda { self.new.agenda ≡ self.old.agenda }
+        ensures receivers { self.new.receivers ≡ self.old.receivers }
     {
         self.census.ages();
     }
@@ -237,7 +242,10 @@ impl Flow {
     pub(crate) fn next(&mut self) -> Option<NetworkEvent>
         ensures some { IfSome result (λ event. outside self.new ≡ outside self.old + carried event) }
         ensures none { result ≡ None → outside self.new ≡ outside self.old }
+        ensures next { IfSome result (λ event. IsNext event self.old.agenda self.new.agenda) }
+        ensures empty { result ≡ None → self.old.agenda.dues ≡ [] }
         ensures census { self.new.census ≡ self.old.census }
+        ensures receivers { self.new.receivers ≡ self.old.receivers }
         ensures forth { self.old.agenda.moment ≤ self.new.agenda.moment }
         ensures entered { self.new.agenda.count ≡ self.old.agenda.count }
     {

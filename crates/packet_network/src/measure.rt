@@ -64,9 +64,11 @@ impl Waits {
 }
 
 impl Level {
+    ghost use Rattle.packet_network.specs.Measures.{no_level};
+
     /// Nothing waited.
     pub(crate) fn new() -> Level
-        ensures { result.passed ≡ 0 }
+        ensures { result ≡ no_level }
     {
         Level {
             most: 0,

@@ -41,6 +41,7 @@ pub(crate) struct Outlet {
 impl Outlet {
     ghost use Rattle.experiment.specs.declared.network.Card.TheVariants.{Levels};
     ghost use Rattle.packet_network.specs.Outlets.{waiting_at};
+    ghost use Rattle.packet_network.specs.Measures.{taken_ever, taken_to};
 
     /// Nothing waits.
     pub(crate) fn open(
@@ -172,7 +173,7 @@ impl Outlet {
 
     // For how long the link was taken up to a moment.
     fn taken_to(&self, now: u64) -> u64
-        ensures value { result ≡ self.now.link.taken - (self.now.link.free - now) }
+        ensures value { result ≡ taken_ever now self.now }
         ensures within { result ≤ now }
     {
         self.link
@@ -182,7 +183,8 @@ impl Outlet {
 
     /// For how long the link was taken up to a moment, since counting began anew.
     pub(crate) fn taken(&self, now: u64) -> u64
-        ensures { result ≤ now }
+        ensures value { result ≡ taken_to now self.now }
+        ensures within { result ≤ now }
     {
         self.taken_to(now).saturating_sub(self.taken)
     }

@@ -1,7 +1,7 @@
 // All cards, or all outputs of the switch.
 ghost use Rattle.std.specs.Prelude.{◌≡◌, ◌<◌, ◌+◌, ◌^◌, length, true, false, Ok, None, IfOk, IfSome, OnErr};
 ghost use Rattle.packet_network.specs.Outlets.{waiting_at_all};
-ghost use Rattle.packet_network.specs.Measures.{waits_of, passed_at};
+ghost use Rattle.packet_network.specs.Measures.{waits_of, level_of};
 
 use crate::event::Place;
 use crate::measure::{Level, Waits};
@@ -84,7 +84,7 @@ pub(crate) fn all_waits(outlets: &[Outlet], now: u64) -> Waits
 /// What waited and passed at a level of all of these up to a moment.
 pub(crate) fn level_of_all(outlets: &[Outlet], level: usize, now: u64) -> Level
     requires { level < 8 }
-    ensures { result.passed ≡ passed_at level outlets.now }
+    ensures { result ≡ level_of now level outlets.now }
 {
     let mut sum = Level::new();
     for outlet in outlets.iter() {

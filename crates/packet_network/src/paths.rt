@@ -1,10 +1,11 @@
 // Where packets are, and how they go on.
-ghost use Rattle.std.specs.Prelude.{◌≡◌, ◌≤◌, ◌<◌, ◌+◌, ◌^◌, length, IfOk, OnOk};
+ghost use Rattle.std.specs.Prelude.{◌≡◌, ◌≤◌, ◌<◌, ◌+◌, ◌^◌, length, map, replicate, IfOk, OnOk};
 ghost use Rattle.packet_network.specs.Standing.{in_agenda};
 ghost use Rattle.packet_network.specs.Outlets.{waiting_at_all};
 ghost use Rattle.packet_network.specs.Censuses.{IsStill, no_fates};
 ghost use Rattle.packet_network.specs.Measures.{no_bytes};
 ghost use Rattle.packet_network.specs.States.{arrived, arriving};
+ghost use Rattle.run_gauges.specs.Receivers.{known_of, nothing_known};
 
 use crate::chance::chance_of;
 use crate::event::{Begun, NetworkEvent, Place, Reached};
@@ -36,8 +37,10 @@ pub(crate) struct PacketPaths {
 }
 
 // As many receivers, which grant to so many senders at a time.
+#[tactic(auto, using(crate::proofs::ReceiverLaws::one_receiver_more))]
 fn receivers(alloc: Global, overcommit: u32) -> Result<Vec<Receiver>, AllocError>
-    ensures { IfOk result (λ rs. length rs.items ≡ 32) }
+    ensures all { IfOk result (λ rs. length rs.items ≡ 32) }
+    ensures known { IfOk result (λ rs. map known_of rs.items ≡ replicate 32 (nothing_known overcommit)) }
 {
     let mut receivers = Vec::with_capacity(alloc, SENDERS)?;
     for _ in 0..SENDERS {
@@ -55,6 +58,7 @@ fn restart_spans(receivers: &mut [Receiver], now: u64) {
 
 impl PacketPaths {
     ghost use Rattle.packet_network.specs.Paths.{IsAsGiven, IsLossless};
+    ghost use Rattle.packet_network.specs.Agendas.{nothing_due, IsInOrder, IsNoTask};
 
     /// Nothing is due, and nothing under way.
     pub(crate) fn open(
@@ -67,6 +71,9 @@ impl PacketPaths {
         ensures under_way { IfOk result (λ f. f.flow.census.under_way ≡ 0) }
         ensures loss { IfOk result (λ f. f.network.loss ≡ experiment.now.network.loss) }
         ensures repeat { IfOk result (λ f. f.network.repeat ≡ experiment.now.network.repeat) }
+        ensures agenda { IfOk result (λ f. f.flow.agenda ≡ nothing_due) }
+        ensures receivers { IfOk result (λ f. map known_of f.flow.receivers.items ≡ replicate 32 (nothing_known experiment.now.settings.overcommit)) }
+        ensures down { IfOk result (λ f. f.down ≡ no_bytes) }
     {
         let network = experiment.network;
         let flow = Flow {
@@ -132,6 +139,7 @@ impl PacketPaths {
         ensures lossless { OnOk result (IsLossless self.old self.new) }
         ensures given { IsAsGiven self.old self.new }
         ensures none { IfOk result (λ reached. arriving reached ≡ 0) }
+        ensures no_task { IfOk result (λ reached. IsNoTask reached) }
     {
         let now = self.flow.agenda.now();
         let Some((packet, passage)) = begin_at(self.outputs.as_mut_slice(), place, now) else {
@@ -147,9 +155,11 @@ impl PacketPaths {
     }
 
     /// What happens next, or none where nothing is due.
+    #[tactic(auto, using(crate::proofs::OrderLaws::no_task))]
     pub(crate) fn next(&mut self) -> Result<Option<Reached>, NetworkStop>
         ensures sent { self.new.flow.census.fates.sent ≡ self.old.flow.census.fates.sent }
         ensures arrived { IfOk result (λ r. self.new.flow.census.fates.delivered ≡ self.old.flow.census.fates.delivered + arrived r) }
+        ensures in_order { IfOk result (λ r. IsInOrder r self.old.flow.agenda self.new.flow.agenda) }
         ensures old { self.new.flow.census.fates.old ≡ self.old.flow.census.fates.old }
         ensures forth { self.old.flow.agenda.moment ≤ self.new.flow.agenda.moment }
         ensures lossless { OnOk result (IsLossless self.old self.new) }

@@ -1,7 +1,7 @@
 // Why a network stops.
 use std::alloc::AllocError;
 
-/// Why a network stops: memory ran out, or the run is longer than its moments and numbers reach, which no run is.
+/// Why a network stops: memory ran out, or the run is longer than its moments and numbers reach.
 #[derive(Clone, Copy, Debug, PartialEq, Eq)]
 pub enum NetworkStop {
     NoMemory,

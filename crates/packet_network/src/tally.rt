@@ -1,5 +1,5 @@
 // What is measured at a queue.
-ghost use Rattle.std.specs.Prelude.{◌≡◌, ◌<◌, ◌+◌, ◌-◌, ◌^◌, min, slice_index};
+ghost use Rattle.std.specs.Prelude.{◌≡◌, ◌<◌, ◌+◌, ◌-◌, ◌^◌, min};
 
 use crate::measure::{Level, Waits};
 use run_gauges::Gauge;
@@ -21,7 +21,7 @@ fn restart_all(gauges: &mut [Gauge], now: u64) {
 }
 
 impl QueueTally {
-    ghost use Rattle.packet_network.specs.Measures.{with_queue};
+    ghost use Rattle.packet_network.specs.Measures.{with_queue, with_level};
 
     /// Nothing waits.
     pub(crate) fn new() -> QueueTally
@@ -82,9 +82,10 @@ impl QueueTally {
     }
 
     /// Adds what was measured here of a level up to a moment.
+    #[tactic(auto, using(crate::proofs::ReceiverLaws::gauge_says))]
     pub(crate) fn add_level(&self, now: u64, level: usize, sum: &Level) -> Level
         requires { level < 8 }
-        ensures { result.passed ≡ min (sum.now.passed + slice_index self.now.passed level) (2 ^ 64 - 1) }
+        ensures { result ≡ with_level now level self.now sum.now }
     {
         let gauge = self.levels[level];
         Level {

@@ -1,7 +1,6 @@
 // What a receiver knows of its messages, and how its link is used.
 ghost use Rattle.std.specs.Prelude.{◌≡◌, ◌≤◌, ◌<◌, ◌+◌, ◌-◌, ◌^◌, ◌==◌, min, true, false, slice_index, slice_set};
 ghost use Rattle.run_gauges.specs.Uses.{part};
-ghost use Rattle.run_gauges.specs.Receivers.{use_of};
 
 use crate::spans::{Spans, Use};
 
@@ -24,6 +23,9 @@ pub struct Receiver {
 }
 
 impl Receiver {
+    ghost use Rattle.run_gauges.specs.Receivers.{use_of, times_of, times_to, known_of, nothing_known, opens, closes, begins, completes};
+    ghost use Rattle.run_gauges.specs.Receivers.{sends, arrives, set_taken, restart};
+
     /// It has no messages, and its link is idle from moment 0 on.
     pub fn new(overcommit: u32) -> Receiver
         ensures overcommit { result.overcommit ≡ overcommit }
@@ -33,6 +35,7 @@ impl Receiver {
         ensures is_taken { result.is_taken ≡ false }
         ensures from { result.spans.from ≡ 0 }
         ensures since { result.spans.since ≡ 0 }
+        ensures known { known_of result ≡ nothing_known overcommit }
     {
         Receiver {
             overcommit,
@@ -68,6 +71,7 @@ impl Receiver {
         ensures later { at ≤ result.since }
         ensures taken { self.now.is_taken ≡ true → result.taken ≡ self.now.spans.taken + (at - self.now.spans.since) }
         ensures idle { self.now.is_taken ≡ false → result.taken ≡ self.now.spans.taken }
+        ensures times { times_of result ≡ times_to at (known_of self.now) }
     {
         self.spans.passed(at, self.used(), self.ungranted > 0)
     }
@@ -77,6 +81,7 @@ impl Receiver {
         ensures is_taken { self.new.is_taken ≡ is_taken }
         ensures taken { self.old.is_taken ≡ true → self.new.spans.taken ≡ self.old.spans.taken + (at - self.old.spans.since) }
         ensures idle { self.old.is_taken ≡ false → self.new.spans.taken ≡ self.old.spans.taken }
+        ensures known { known_of self.new ≡ set_taken at is_taken (known_of self.old) }
     {
         self.spans = self.spans_at(at);
         self.is_taken = is_taken;
@@ -84,7 +89,8 @@ impl Receiver {
 
     /// One more message has bytes that aren't granted.
     pub fn opens(&mut self, at: u64)
-        ensures { self.new.ungranted ≡ min (self.old.ungranted + 1) (2 ^ 32 - 1) }
+        ensures ungranted { self.new.ungranted ≡ min (self.old.ungranted + 1) (2 ^ 32 - 1) }
+        ensures known { known_of self.new ≡ opens at (known_of self.old) }
     {
         self.spans = self.spans_at(at);
         self.ungranted = self.ungranted.saturating_add(1);
@@ -92,7 +98,8 @@ impl Receiver {
 
     /// One message less has such bytes.
     pub fn closes(&mut self, at: u64)
-        ensures { self.new.ungranted ≡ self.old.ungranted - 1 }
+        ensures ungranted { self.new.ungranted ≡ self.old.ungranted - 1 }
+        ensures known { known_of self.new ≡ closes at (known_of self.old) }
     {
         self.spans = self.spans_at(at);
         self.ungranted = self.ungranted.saturating_sub(1);
@@ -103,6 +110,7 @@ impl Receiver {
         requires { sender < 32 }
         ensures incomplete { self.new.incomplete ≡ slice_set self.old.incomplete sender (min (slice_index self.old.incomplete sender + 1) (2 ^ 32 - 1)) }
         ensures senders { self.new.senders ≡ min (self.old.senders + part (slice_index self.old.incomplete sender == 0) 1) (2 ^ 32 - 1) }
+        ensures known { known_of self.new ≡ begins at sender (known_of self.old) }
     {
         self.spans = self.spans_at(at);
         let before = self.incomplete[sender];
@@ -116,6 +124,7 @@ impl Receiver {
         requires { sender < 32 }
         ensures incomplete { self.new.incomplete ≡ slice_set self.old.incomplete sender (slice_index self.old.incomplete sender - 1) }
         ensures senders { self.new.senders ≡ self.old.senders - part (slice_index self.old.incomplete sender == 1) 1 }
+        ensures known { known_of self.new ≡ completes at sender (known_of self.old) }
     {
         self.spans = self.spans_at(at);
         let before = self.incomplete[sender];
@@ -126,7 +135,8 @@ impl Receiver {
 
     /// A packet is under way to it.
     pub fn sends(&mut self, at: u64)
-        ensures { self.new.under_way ≡ min (self.old.under_way + 1) (2 ^ 64 - 1) }
+        ensures under_way { self.new.under_way ≡ min (self.old.under_way + 1) (2 ^ 64 - 1) }
+        ensures known { known_of self.new ≡ sends at (known_of self.old) }
     {
         self.spans = self.spans_at(at);
         self.under_way = self.under_way.saturating_add(1);
@@ -134,7 +144,8 @@ impl Receiver {
 
     /// One less is.
     pub fn arrives(&mut self, at: u64)
-        ensures { self.new.under_way ≡ self.old.under_way - 1 }
+        ensures under_way { self.new.under_way ≡ self.old.under_way - 1 }
+        ensures known { known_of self.new ≡ arrives at (known_of self.old) }
     {
         self.spans = self.spans_at(at);
         self.under_way = self.under_way.saturating_sub(1);
@@ -147,6 +158,7 @@ impl Receiver {
         ensures withheld { self.new.spans.withheld ≡ 0 }
         ensures wasted { self.new.spans.wasted ≡ 0 }
         ensures is_taken { self.new.is_taken ≡ self.old.is_taken }
+        ensures known { known_of self.new ≡ restart at (known_of self.old) }
     {
         self.spans = Spans::begin(at);
     }

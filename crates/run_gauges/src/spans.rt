@@ -31,6 +31,8 @@ pub struct Spans {
 }
 
 impl Spans {
+    ghost use Rattle.run_gauges.specs.Receivers.{times_of, no_time, with_time};
+
     /// No time, from a moment on.
     pub fn begin(from: u64) -> Spans
         ensures from { result.from ≡ from }
@@ -38,6 +40,7 @@ impl Spans {
         ensures taken { result.taken ≡ 0 }
         ensures withheld { result.withheld ≡ 0 }
         ensures wasted { result.wasted ≡ 0 }
+        ensures times { times_of result ≡ no_time from }
     {
         Spans {
             from,
@@ -72,6 +75,7 @@ impl Spans {
         ensures unsent { result.unsent ≡ self.now.unsent + part (is_unsent used) (at - self.now.since) }
         ensures empty { result.empty ≡ self.now.empty + part (is_empty used) (at - self.now.since) }
         ensures wasted { result.wasted ≡ self.now.wasted + part (is_wasted used is_short) (at - self.now.since) }
+        ensures times { times_of result ≡ with_time at used is_short (times_of self.now) }
     {
         let span = at.saturating_sub(self.since);
         let more = if is_short { span } else { 0 };

@@ -1,6 +1,6 @@
 -- What stays when a call is replaced, or one more is made.
-use Rattle.std.proofs.Common.{◌≡◌, ℕ, ◌<◌, ◌≤◌, List, [], ◌∷◌, ◌++◌, length, sym, ap, get_or, inl, inr}
-use Rattle.std.specs.Prelude.{Option, Some, None, slice_get, slice_set}
+use Rattle.std.proofs.Common.{◌≡◌, ℕ, ◌<◌, ◌≤◌, List, [], ◌∷◌, ◌++◌, length, sym, ap, ◌∙◌, get_or, inl, inr}
+use Rattle.std.specs.Prelude.{Option, Some, slice_get, slice_set, unwrap_or}
 use Rattle.std.proofs.Math.Seq.{map-set_same}
 use Rattle.std.proofs.lemmas.List.{get_or_past, map-append}
 use Rattle.std.proofs.lemmas.Option.{slice_get-get_or, slice_get_cases}
@@ -15,6 +15,12 @@ changed_alike cs i c alike =
       | inl found ↦ alike (get_or cs i c) (slice_get-get_or cs i c found.1)
       | inr past ↦ ap made_of (sym (get_or_past cs i c past.0))
     ])
+
+-- the call at a place is replaced by one that was made as it was
+pub changed_at : (cs : List SimCall) (i : ℕ) (c e : SimCall) → slice_get cs i ≡ Some e → made_of c ≡ made_of e
+    → all_made (slice_set cs i c) ≡ all_made cs
+changed_at cs i c e is made =
+    changed_alike cs i c (λ d at. made ∙ ap (λ (o : Option SimCall). made_of (unwrap_or o e)) (sym is ∙ at))
 
 -- one call more was made
 pub made_behind : (cs : List SimCall) (c : SimCall) → all_made (cs ++ c ∷ []) ≡ all_made cs ++ made_of c ∷ []

@@ -1,3 +1,4 @@
 pub mod Measured
 pub mod Troubles
 pub mod Runs
+pub mod Ends

@@ -1,7 +1,8 @@
 // What the world's lines tell.
-ghost use Rattle.std.specs.Prelude.{◌≡◌, ◌+◌, ◌++◌, ◌-◌, ◌<◌, ◌^◌, length, min, OnOk};
+ghost use Rattle.std.specs.Prelude.{◌≡◌, ◌+◌, ◌++◌, ◌-◌, ◌<◌, ◌^◌, length, min, false, OnOk};
 ghost use Rattle.homa_plain.specs.Entries.{plain};
-ghost use Rattle.simulated_network.specs.Runs.{all_made, made_by, one_made, sent_by, one_sent};
+ghost use Rattle.simulated_network.specs.Runs.{all_made, made_by, one_made, sent_by, one_sent, Stays, IsHeard};
+ghost use Rattle.simulated_network.specs.Ends.{is_open};
 
 use crate::network::SimulatedNetwork;
 use crate::receivers::is_known;
@@ -24,7 +25,9 @@ struct SentPacket<'a> {
 }
 
 // How a call ended that failed so.
-fn failed(why: Why) -> CallEnd {
+fn failed(why: Why) -> CallEnd
+    ensures { is_open result ≡ false }
+{
     match why {
         Why::Timeout => CallEnd::Timeout,
         Why::Forgotten => CallEnd::Forgotten,
@@ -48,11 +51,7 @@ impl SimulatedNetwork<'_> {
     ) -> Result<(), NetworkStop>
         ensures made { OnOk result (all_made self.new.calls ≡ all_made self.old.calls ++ made_by (plain entry.now) self.old.drawn self.old.network.moment) }
         ensures sent { OnOk result (self.new.network.fates.sent ≡ self.old.network.fates.sent + sent_by (plain entry.now) datagram) }
-        ensures delivered { self.new.network.fates.delivered ≡ self.old.network.fates.delivered }
-        ensures old { self.new.network.fates.old ≡ self.old.network.fates.old }
-        ensures moment { self.new.network.moment ≡ self.old.network.moment }
-        ensures drawn { self.new.drawn ≡ self.old.drawn }
-        ensures left_out { self.new.trouble.left_out ≡ self.old.trouble.left_out }
+        ensures stays { Stays self.old self.new }
     {
         match *entry {
             Entry::Call {
@@ -93,6 +92,7 @@ impl SimulatedNetwork<'_> {
         ensures made { OnOk result (all_made self.new.calls ≡ all_made self.old.calls ++ one_made id server bytes self.old.drawn self.old.network.moment) }
         ensures network { self.new.network ≡ self.old.network }
         ensures drawn { self.new.drawn ≡ self.old.drawn }
+        ensures load { self.new.load ≡ self.old.load }
         ensures trouble { self.new.trouble ≡ self.old.trouble }
     {
         let call = SimCall {
@@ -120,11 +120,7 @@ impl SimulatedNetwork<'_> {
     ) -> Result<(), NetworkStop>
         ensures made { all_made self.new.calls ≡ all_made self.old.calls }
         ensures sent { OnOk result (self.new.network.fates.sent ≡ self.old.network.fates.sent + one_sent sent.now.from sent.now.to datagram) }
-        ensures delivered { self.new.network.fates.delivered ≡ self.old.network.fates.delivered }
-        ensures old { self.new.network.fates.old ≡ self.old.network.fates.old }
-        ensures moment { self.new.network.moment ≡ self.old.network.moment }
-        ensures drawn { self.new.drawn ≡ self.old.drawn }
-        ensures trouble { self.new.trouble ≡ self.old.trouble }
+        ensures stays { Stays self.old self.new }
     {
         let Some(datagram) = datagram else {
             return Ok(());
@@ -147,6 +143,7 @@ impl SimulatedNetwork<'_> {
         ensures made { all_made self.new.calls ≡ all_made self.old.calls }
         ensures network { self.new.network ≡ self.old.network }
         ensures drawn { self.new.drawn ≡ self.old.drawn }
+        ensures load { self.new.load ≡ self.old.load }
         ensures trouble { self.new.trouble ≡ self.old.trouble }
     {
         let mark = self.known.says(
@@ -158,7 +155,7 @@ impl SimulatedNetwork<'_> {
             sent.len,
         );
         self.window.sends(matches!(sent.body, Body::Cutoffs(_)));
-        let overhead = self.experiment.network.overhead;
+        let overhead = self.known.experiment.network.overhead;
         SimPacket {
             number: sent.number,
             tick: datagram.tick,
@@ -177,10 +174,7 @@ impl SimulatedNetwork<'_> {
 
     // What other lines tell: how a call goes on.
     fn hears(&mut self, entry: &Entry<'_>) -> Result<(), NetworkStop>
-        ensures made { all_made self.new.calls ≡ all_made self.old.calls }
-        ensures network { self.new.network ≡ self.old.network }
-        ensures drawn { self.new.drawn ≡ self.old.drawn }
-        ensures left_out { self.new.trouble.left_out ≡ self.old.trouble.left_out }
+        ensures { IsHeard self.old self.new }
     {
         match *entry {
             Entry::Run {
@@ -202,10 +196,7 @@ impl SimulatedNetwork<'_> {
 
     // A server gives up a request.
     fn drops(&mut self, id: CallId)
-        ensures made { all_made self.new.calls ≡ all_made self.old.calls }
-        ensures network { self.new.network ≡ self.old.network }
-        ensures drawn { self.new.drawn ≡ self.old.drawn }
-        ensures left_out { self.new.trouble.left_out ≡ self.old.trouble.left_out }
+        ensures { IsHeard self.old self.new }
     {
         self.trouble.dropped = self.trouble.dropped.saturating_add(1);
         self.known.drops(&mut self.packets, id);
@@ -213,10 +204,7 @@ impl SimulatedNetwork<'_> {
 
     // A host refuses a message.
     fn refuses(&mut self, host: HostId, id: CallId)
-        ensures made { all_made self.new.calls ≡ all_made self.old.calls }
-        ensures network { self.new.network ≡ self.old.network }
-        ensures drawn { self.new.drawn ≡ self.old.drawn }
-        ensures left_out { self.new.trouble.left_out ≡ self.old.trouble.left_out }
+        ensures { IsHeard self.old self.new }
     {
         self.trouble.refused = self.trouble.refused.saturating_add(1);
         self.known.refuses(&mut self.packets, host, id);

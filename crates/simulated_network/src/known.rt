@@ -1,6 +1,7 @@
 // What is known of calls and their messages.
-ghost use Rattle.std.specs.Prelude.{◌≡◌, ◌++◌, ◌∷◌, [], Some, IfOk, OnOk, slice_get};
+ghost use Rattle.std.specs.Prelude.{◌≡◌, ◌++◌, ◌∷◌, [], true, false, Some, IfOk, OnOk, slice_get};
 ghost use Rattle.simulated_network.specs.Runs.{made_of, all_made};
+ghost use Rattle.simulated_network.specs.Ends.{is_open, unended_of};
 
 use crate::mark::PacketMark;
 use crate::outcome::is_measured;
@@ -11,15 +12,16 @@ use homa_plain::{Body, CallId, HostId, Role};
 use packet_network::{Begun, PacketNetwork, Piece, PieceGrant, SimPacket};
 use std::alloc::{AllocError, Global};
 
-/// All calls that were made with their messages, and how many of those that are measured are open.
+/// All calls that were made with their messages, and how many of those that are measured haven't ended.
 #[derive(Drop)]
 pub(crate) struct KnownCalls<'a> {
-    experiment: &'a Experiment,
+    pub(crate) experiment: &'a Experiment,
     pub(crate) calls: SimCalls,
     pub(crate) transfers: Transfers,
-    open: u64,
+    unended: u64,
     // How many packets were sent of calls that aren't known.
     strange: u32,
+    ghost counted: { unended ≡ unended_of experiment.now.load calls },
 }
 
 // The grant that a packet of the call at a place is, if it is one. A client grants its response, and a server its request.
@@ -42,31 +44,36 @@ impl<'a> KnownCalls<'a> {
     ) -> Result<KnownCalls<'a>, AllocError>
         ensures calls { IfOk result (λ known. known.calls ≡ []) }
         ensures transfers { IfOk result (λ known. known.transfers ≡ []) }
+        ensures load { IfOk result (λ known. known.experiment.now.load ≡ experiment.now.load) }
     {
         Ok(KnownCalls {
             experiment,
             calls: SimCalls::new(alloc, experiment.settings.hosts)?,
             transfers: Transfers::new(alloc),
-            open: 0,
+            unended: 0,
             strange: 0,
         })
     }
 
-    /// How many calls that are measured are open.
-    pub(crate) fn open(&self) -> u64
-        ensures { result ≡ self.now.open }
+    /// How many calls that are measured haven't ended.
+    pub(crate) fn unended(&self) -> u64
+        ensures { result ≡ self.now.unended }
     {
-        self.open
+        self.unended
     }
 
     /// A call is made.
+    #[tactic(auto, using(crate::proofs::EndLaws::made_counts))]
     pub(crate) fn make(&mut self, call: SimCall) -> Result<(), AllocError>
+        requires { is_open call.end ≡ true }
         ensures made { OnOk result (self.new.calls ≡ self.old.calls ++ call ∷ []) }
+        ensures experiment { self.new.experiment ≡ self.old.experiment }
     {
         self.calls.make(call.id, call)?;
-        if is_measured(&self.experiment.load, call.drawn) {
-            self.open = self.open.saturating_add(1);
-        }
+        let more = u64::from(is_measured(&self.experiment.load, call.drawn));
+        // No more haven't ended than were made.
+        let most = self.calls.count() as u64;
+        self.unended = self.unended.saturating_add(more).min(most);
         let unsched = self.experiment.settings.unsched;
         let request = Transfer::begun(call.request, unsched, call.made);
         self.transfers.begin(request, Transfer::unknown())
@@ -75,7 +82,9 @@ impl<'a> KnownCalls<'a> {
     // A message leaves its receiver. If it isn't over there, it may come anew.
     fn leaves(&mut self, packets: &mut PacketNetwork, place: u32, is_response: bool, is_over: bool)
         ensures made { all_made self.new.calls ≡ all_made self.old.calls }
-        ensures packets { packets.new ≡ packets.old }
+        ensures experiment { self.new.experiment ≡ self.old.experiment }
+        ensures network { packets.new.state ≡ packets.old.state }
+        ensures agenda { packets.new.agenda ≡ packets.old.agenda }
     {
         let Some(call) = self.calls.at(place) else {
             return;
@@ -104,7 +113,9 @@ impl<'a> KnownCalls<'a> {
     /// A service ran, and answers so many bytes.
     pub(crate) fn runs(&mut self, packets: &mut PacketNetwork, id: CallId, bytes: u32)
         ensures made { all_made self.new.calls ≡ all_made self.old.calls }
-        ensures packets { packets.new ≡ packets.old }
+        ensures experiment { self.new.experiment ≡ self.old.experiment }
+        ensures network { packets.new.state ≡ packets.old.state }
+        ensures agenda { packets.new.agenda ≡ packets.old.agenda }
     {
         let Some(place) = self.calls.place(id) else {
             return;
@@ -128,8 +139,11 @@ impl<'a> KnownCalls<'a> {
     }
 
     // The call at a place ends, if it is open.
+    #[tactic(auto, using(crate::proofs::EndLaws::end_counts, crate::proofs::MadeLaws::changed_at))]
     fn end_at(&mut self, now: u64, place: u32, end: CallEnd)
+        requires { is_open end ≡ false }
         ensures made { all_made self.new.calls ≡ all_made self.old.calls }
+        ensures experiment { self.new.experiment ≡ self.old.experiment }
     {
         let Some(call) = self.calls.at(place) else {
             return;
@@ -137,17 +151,19 @@ impl<'a> KnownCalls<'a> {
         if call.end != CallEnd::Open {
             return;
         }
-        if is_measured(&self.experiment.load, call.drawn) {
-            self.open = self.open.saturating_sub(1);
-        }
+        let less = u64::from(is_measured(&self.experiment.load, call.drawn));
+        self.unended = self.unended.saturating_sub(less);
         let ended = now;
-        self.change(place, SimCall { ended, end, ..call });
+        self.calls.set(place, SimCall { ended, end, ..call });
     }
 
     /// A call ends at its client.
     pub(crate) fn ends(&mut self, packets: &mut PacketNetwork, id: CallId, end: CallEnd)
+        requires { is_open end ≡ false }
         ensures made { all_made self.new.calls ≡ all_made self.old.calls }
-        ensures packets { packets.new ≡ packets.old }
+        ensures experiment { self.new.experiment ≡ self.old.experiment }
+        ensures network { packets.new.state ≡ packets.old.state }
+        ensures agenda { packets.new.agenda ≡ packets.old.agenda }
     {
         if let Some(place) = self.calls.place(id) {
             self.leaves(packets, place, true, true);
@@ -155,20 +171,24 @@ impl<'a> KnownCalls<'a> {
         }
     }
 
-    /// A server gives up a request.
+    /// A server gives up a request, of which it knows nothing then. It may come anew.
     pub(crate) fn drops(&mut self, packets: &mut PacketNetwork, id: CallId)
         ensures made { all_made self.new.calls ≡ all_made self.old.calls }
-        ensures packets { packets.new ≡ packets.old }
+        ensures experiment { self.new.experiment ≡ self.old.experiment }
+        ensures network { packets.new.state ≡ packets.old.state }
+        ensures agenda { packets.new.agenda ≡ packets.old.agenda }
     {
         if let Some(place) = self.calls.place(id) {
-            self.leaves(packets, place, false, true);
+            self.leaves(packets, place, false, false);
         }
     }
 
     /// A host refuses a message, of which it knows nothing then.
     pub(crate) fn refuses(&mut self, packets: &mut PacketNetwork, host: HostId, id: CallId)
         ensures made { all_made self.new.calls ≡ all_made self.old.calls }
-        ensures packets { packets.new ≡ packets.old }
+        ensures experiment { self.new.experiment ≡ self.old.experiment }
+        ensures network { packets.new.state ≡ packets.old.state }
+        ensures agenda { packets.new.agenda ≡ packets.old.agenda }
     {
         if let Some(place) = self.calls.place(id) {
             let is_response = host == id.client;
@@ -179,7 +199,9 @@ impl<'a> KnownCalls<'a> {
     // A host that restarts loses what it knows of the call at a place.
     fn loses(&mut self, packets: &mut PacketNetwork, host: HostId, place: u32)
         ensures made { all_made self.new.calls ≡ all_made self.old.calls }
-        ensures packets { packets.new ≡ packets.old }
+        ensures experiment { self.new.experiment ≡ self.old.experiment }
+        ensures network { packets.new.state ≡ packets.old.state }
+        ensures agenda { packets.new.agenda ≡ packets.old.agenda }
     {
         let Some(call) = self.calls.at(place) else {
             return;
@@ -201,7 +223,9 @@ impl<'a> KnownCalls<'a> {
         inc: u32,
     ) -> Result<(), AllocError>
         ensures made { all_made self.new.calls ≡ all_made self.old.calls }
-        ensures packets { packets.new ≡ packets.old }
+        ensures experiment { self.new.experiment ≡ self.old.experiment }
+        ensures network { packets.new.state ≡ packets.old.state }
+        ensures agenda { packets.new.agenda ≡ packets.old.agenda }
     {
         let count = u32::try_from(self.calls.count()).unwrap_or(u32::MAX);
         for place in 0..count {
@@ -213,6 +237,7 @@ impl<'a> KnownCalls<'a> {
     // What a piece says.
     fn piece(&mut self, now: u64, drawn: u32, piece: Piece) -> PacketMark
         ensures made { all_made self.new.calls ≡ all_made self.old.calls }
+        ensures experiment { self.new.experiment ≡ self.old.experiment }
     {
         let mut times = None;
         if let Some(message) = self.transfers.message(piece.call, piece.is_response) {
@@ -228,7 +253,9 @@ impl<'a> KnownCalls<'a> {
     // A receiver grants a message up to a byte.
     fn grants(&mut self, packets: &mut PacketNetwork, receiver: HostId, grant: &PieceGrant)
         ensures made { all_made self.new.calls ≡ all_made self.old.calls }
-        ensures packets { packets.new ≡ packets.old }
+        ensures experiment { self.new.experiment ≡ self.old.experiment }
+        ensures network { packets.new.state ≡ packets.old.state }
+        ensures agenda { packets.new.agenda ≡ packets.old.agenda }
     {
         let Some(message) = self.transfers.message(grant.call, grant.is_response) else {
             return;
@@ -241,10 +268,13 @@ impl<'a> KnownCalls<'a> {
         }
     }
 
-    // The call at a place is now this, which was made as it was.
+    // The call at a place is now this, which was made as it was, and hasn't ended if it hadn't.
+    #[tactic(auto, using(crate::proofs::EndLaws::unended_alike))]
     fn change(&mut self, place: u32, call: SimCall)
-        requires { (c : SimCall) → slice_get self.old.calls place ≡ Some c → made_of call ≡ made_of c }
-        ensures { all_made self.new.calls ≡ all_made self.old.calls }
+        requires made { (c : SimCall) → slice_get self.old.calls place ≡ Some c → made_of call ≡ made_of c }
+        requires end { (c : SimCall) → slice_get self.old.calls place ≡ Some c → call.end ≡ c.end }
+        ensures made { all_made self.new.calls ≡ all_made self.old.calls }
+        ensures experiment { self.new.experiment ≡ self.old.experiment }
     {
         self.calls.set(place, call);
     }
@@ -252,7 +282,8 @@ impl<'a> KnownCalls<'a> {
     // A call's packet without a piece is counted.
     fn count(&mut self, place: u32, call: SimCall, is_resend: bool)
         requires { slice_get self.old.calls place ≡ Some call }
-        ensures { all_made self.new.calls ≡ all_made self.old.calls }
+        ensures made { all_made self.new.calls ≡ all_made self.old.calls }
+        ensures experiment { self.new.experiment ≡ self.old.experiment }
     {
         let counted = SimCall {
             controls: call.controls.saturating_add(1),
@@ -265,6 +296,7 @@ impl<'a> KnownCalls<'a> {
     // The mark of a packet of a call that isn't known.
     fn strange(&mut self) -> PacketMark
         ensures made { all_made self.new.calls ≡ all_made self.old.calls }
+        ensures experiment { self.new.experiment ≡ self.old.experiment }
     {
         self.strange = self.strange.saturating_add(1);
         PacketMark::control(u32::MAX, self.strange, None)
@@ -281,7 +313,9 @@ impl<'a> KnownCalls<'a> {
         len: u32,
     ) -> PacketMark
         ensures made { all_made self.new.calls ≡ all_made self.old.calls }
-        ensures packets { packets.new ≡ packets.old }
+        ensures experiment { self.new.experiment ≡ self.old.experiment }
+        ensures network { packets.new.state ≡ packets.old.state }
+        ensures agenda { packets.new.agenda ≡ packets.old.agenda }
     {
         let Some(place) = self.calls.place(id) else {
             return self.strange();
@@ -310,7 +344,9 @@ impl<'a> KnownCalls<'a> {
     // A piece comes to its receiver, which may be the first of its message.
     fn comes(&mut self, packets: &mut PacketNetwork, from: HostId, to: HostId, piece: &Piece)
         ensures made { all_made self.new.calls ≡ all_made self.old.calls }
-        ensures packets { packets.new ≡ packets.old }
+        ensures experiment { self.new.experiment ≡ self.old.experiment }
+        ensures network { packets.new.state ≡ packets.old.state }
+        ensures agenda { packets.new.agenda ≡ packets.old.agenda }
     {
         let Some(message) = self.transfers.message(piece.call, piece.is_response) else {
             return;
@@ -331,7 +367,9 @@ impl<'a> KnownCalls<'a> {
     /// A packet is at its host.
     pub(crate) fn arrives(&mut self, packets: &mut PacketNetwork, packet: &SimPacket)
         ensures made { all_made self.new.calls ≡ all_made self.old.calls }
-        ensures packets { packets.new ≡ packets.old }
+        ensures experiment { self.new.experiment ≡ self.old.experiment }
+        ensures network { packets.new.state ≡ packets.old.state }
+        ensures agenda { packets.new.agenda ≡ packets.old.agenda }
     {
         if let Some(piece) = packet.piece {
             self.comes(packets, packet.from, packet.to, &piece);
@@ -344,6 +382,7 @@ impl<'a> KnownCalls<'a> {
     // A grant comes to its message's sender.
     fn clears(&mut self, now: u64, grant: &PieceGrant)
         ensures made { all_made self.new.calls ≡ all_made self.old.calls }
+        ensures experiment { self.new.experiment ≡ self.old.experiment }
     {
         if let Some(message) = self.transfers.message(grant.call, grant.is_response) {
             let mut message = message;
@@ -355,6 +394,7 @@ impl<'a> KnownCalls<'a> {
     /// A packet leaves its sender's network card.
     pub(crate) fn leaves_card(&mut self, now: u64, begun: &Begun)
         ensures made { all_made self.new.calls ≡ all_made self.old.calls }
+        ensures experiment { self.new.experiment ≡ self.old.experiment }
     {
         let Some(piece) = begun.piece else {
             return;
@@ -376,6 +416,7 @@ impl<'a> KnownCalls<'a> {
     /// A packet leaves an output of the switch.
     pub(crate) fn leaves_output(&mut self, begun: &Begun)
         ensures made { all_made self.new.calls ≡ all_made self.old.calls }
+        ensures experiment { self.new.experiment ≡ self.old.experiment }
     {
         let Some(piece) = begun.piece else {
             return;

@@ -1,7 +1,8 @@
 // A simulated network, which tells what happens next in the world, and heeds what the world tells.
-ghost use Rattle.std.specs.Prelude.{◌≡◌, ◌≤◌, ◌<◌, ◌+◌, [], length, false, IfOk};
+ghost use Rattle.std.specs.Prelude.{◌≡◌, ◌≤◌, ◌<◌, ◌+◌, [], length, true, false, IfOk};
 ghost use Rattle.packet_network.specs.Censuses.{no_fates, IsConserved};
-ghost use Rattle.simulated_network.specs.Runs.{all_made, is_call, drawn_after, delivered_by, bytes_of};
+ghost use Rattle.simulated_network.specs.Runs.{all_made, is_call, is_end, drawn_after, delivered_by, bytes_of, IsSame};
+ghost use Rattle.simulated_network.specs.Ends.{MayEnd};
 ghost use Rattle.simulated_network.specs.Troubles.{no_trouble, one_left_out};
 
 use crate::arrivals::Arrivals;
@@ -23,7 +24,6 @@ const MOST_BEHIND: u64 = 1000;
 /// All of a run but its world: what is due, the packets under way, and what is known of calls.
 #[derive(Drop)]
 pub struct SimulatedNetwork<'a> {
-    pub(crate) experiment: &'a Experiment,
     pub(crate) packets: PacketNetwork,
     pub(crate) arrivals: Arrivals,
     pub(crate) known: KnownCalls<'a>,
@@ -37,7 +37,9 @@ impl<'a> Model for SimulatedNetwork<'a> {
     ghost Value = { RunState };
 
     ghost view = { λ n. record {
-      network = n.packets;
+      load = n.known.experiment.now.load;
+      network = n.packets.state;
+      agenda = n.packets.agenda;
       calls = n.known.calls;
       transfers = n.known.transfers;
       drawn = n.arrivals.drawn;
@@ -46,12 +48,13 @@ impl<'a> Model for SimulatedNetwork<'a> {
 }
 
 impl<'a> SimulatedNetwork<'a> {
-    /// The network of an experiment with a seed. The clock is due, and the first calls are.
+    /// Opens the network of an experiment with a seed, in which nothing has happened.
     pub fn open(
         alloc: Global,
         experiment: &'a Experiment,
         seed: u64,
     ) -> Result<SimulatedNetwork<'a>, NetworkStop>
+        ensures load { IfOk result (λ n. n.load ≡ experiment.now.load) }
         ensures calls { IfOk result (λ n. n.calls ≡ []) }
         ensures transfers { IfOk result (λ n. n.transfers ≡ []) }
         ensures drawn { IfOk result (λ n. n.drawn ≡ 0) }
@@ -60,7 +63,6 @@ impl<'a> SimulatedNetwork<'a> {
         ensures trouble { IfOk result (λ n. n.trouble ≡ no_trouble) }
     {
         let mut network = SimulatedNetwork {
-            experiment,
             packets: PacketNetwork::open(alloc, experiment, seed)?,
             arrivals: Arrivals::new(experiment, seed),
             known: KnownCalls::new(alloc, experiment)?,
@@ -77,9 +79,9 @@ impl<'a> SimulatedNetwork<'a> {
 
     // The first calls are due: of a list, or of each client, or of all clients of an incast at once.
     fn enter_calls(&mut self) -> Result<(), NetworkStop>
-        ensures { self.new ≡ self.old }
+        ensures { IsSame self.old self.new }
     {
-        let experiment = self.experiment;
+        let experiment = self.known.experiment;
         if let Some(first) = experiment.listed.first() {
             return self.packets.enter(first.at, Task::Listed(0));
         }
@@ -97,10 +99,10 @@ impl<'a> SimulatedNetwork<'a> {
 
     // The restarts are due at their moments.
     fn enter_restarts(&mut self) -> Result<(), NetworkStop>
-        ensures { self.new ≡ self.old }
+        ensures { IsSame self.old self.new }
     {
         let mut number: u32 = 0;
-        for restart in &self.experiment.restarts {
+        for restart in &self.known.experiment.restarts {
             self.packets.enter(restart.at, Task::Restart(number))?;
             number = number.saturating_add(1);
         }
@@ -109,10 +111,10 @@ impl<'a> SimulatedNetwork<'a> {
 
     // The datagrams that no host sends are due at their moments.
     fn enter_injections(&mut self) -> Result<(), NetworkStop>
-        ensures { self.new ≡ self.old }
+        ensures { IsSame self.old self.new }
     {
         let mut number: u32 = 0;
-        for injection in &self.experiment.injections {
+        for injection in &self.known.experiment.injections {
             self.packets.enter(injection.at, Task::Inject(number))?;
             number = number.saturating_add(1);
         }
@@ -121,10 +123,10 @@ impl<'a> SimulatedNetwork<'a> {
 
     // The settings of clocks are due at their moments.
     fn enter_shifts(&mut self) -> Result<(), NetworkStop>
-        ensures { self.new ≡ self.old }
+        ensures { IsSame self.old self.new }
     {
         let mut number: u32 = 0;
-        for shift in &self.experiment.shifts {
+        for shift in &self.known.experiment.shifts {
             self.packets.enter(shift.at, Task::Shift(number))?;
             number = number.saturating_add(1);
         }
@@ -152,21 +154,27 @@ impl<'a> SimulatedNetwork<'a> {
         self.known.calls.count()
     }
 
-    // Whether all calls that are measured have ended, or so many more were drawn that they hardly will.
-    fn is_over(&self) -> bool {
-        let load = &self.experiment.load;
+    // Whether all calls that are measured have ended, or so many more were drawn that they hardly will. If calls aren't listed,
+    // measuring ends with the first one behind them.
+    #[tactic(auto, using(crate::proofs::EndLaws::ends_over, crate::proofs::EndLaws::ends_late))]
+    fn is_over(&self) -> bool
+        ensures { result ≡ true → MayEnd self.now }
+    {
+        let load = &self.known.experiment.load;
         let drawn = u64::from(self.arrivals.drawn());
         let measured = u64::from(load.warm) + u64::from(load.calls);
-        let is_closed = if self.experiment.listed.is_empty() {
-            self.window.is_closed
-        } else {
-            drawn >= measured
-        };
-        is_closed
-            && (self.known.open() == 0 || drawn >= measured + u64::from(load.calls) + MOST_BEHIND)
+        let behind = u64::from(self.known.experiment.listed.is_empty());
+        if drawn < measured + behind {
+            return false;
+        }
+        if self.known.unended() == 0 {
+            return true;
+        }
+        drawn >= measured + u64::from(load.calls) + MOST_BEHIND
     }
 
-    /// What happens next; `tick` is that of the world's clock. It ends with `RunStep::Over`.
+    /// Tells what happens next; `tick` is that of the world's clock. `RunStep::Over` comes only if a run may end.
+    #[tactic(auto, using(crate::proofs::EndLaws::ends_idle))]
     pub fn next(&mut self, tick: u64) -> Result<RunStep, NetworkStop>
         ensures made { all_made self.new.calls ≡ all_made self.old.calls }
         ensures drawn { IfOk result (λ step. self.new.drawn ≡ drawn_after step self.old.drawn) }
@@ -175,12 +183,14 @@ impl<'a> SimulatedNetwork<'a> {
         ensures forth { self.old.network.moment ≤ self.new.network.moment }
         ensures bytes { IfOk result (λ step. bytes_of step ≤ 1000000) }
         ensures left_out { self.new.trouble.left_out ≡ self.old.trouble.left_out }
+        ensures load { self.new.load ≡ self.old.load }
+        ensures over { IfOk result (λ step. is_end step ≡ true → MayEnd self.old) }
     {
         if self.is_over() {
             return Ok(RunStep::Over);
         }
         if self.arrivals.is_due() {
-            let asked = self.arrivals.call(self.experiment);
+            let asked = self.arrivals.call(self.known.experiment);
             return Ok(self.call(&asked));
         }
         match self.packets.next()? {
@@ -210,8 +220,10 @@ impl<'a> SimulatedNetwork<'a> {
         ensures sent { self.new.network.fates.sent ≡ self.old.network.fates.sent }
         ensures moment { self.new.network.moment ≡ self.old.network.moment }
         ensures trouble { self.new.trouble ≡ self.old.trouble }
+        ensures load { self.new.load ≡ self.old.load }
+        ensures last { is_end result ≡ false }
     {
-        let settings = &self.experiment.settings;
+        let settings = &self.known.experiment.settings;
         let age = tick.saturating_sub(packet.tick);
         if settings.wire == 1 && age > u64::from(settings.life) {
             self.packets.was_too_old();
@@ -241,19 +253,19 @@ impl<'a> SimulatedNetwork<'a> {
         ensures ended { result.ended ≡ self.entry.network.moment }
     {
         let SimulatedNetwork {
-            experiment,
             packets,
             known,
             mut window,
             trouble,
             ..
         } = self;
-        window.close(&packets, experiment.settings.hosts);
         let KnownCalls {
+            experiment,
             calls,
             transfers,
             ..
         } = known;
+        window.close(&packets, experiment.settings.hosts);
         RunOutcome {
             calls,
             transfers,

@@ -14,7 +14,8 @@ pub(crate) fn is_known(host: HostId) -> bool
 
 /// The first piece of a sender's message came to a receiver, which didn't grant all of it if it is short.
 pub(crate) fn begins(packets: &mut PacketNetwork, receiver: HostId, sender: HostId, is_short: bool)
-    ensures { packets.new ≡ packets.old }
+    ensures network { packets.new.state ≡ packets.old.state }
+    ensures agenda { packets.new.agenda ≡ packets.old.agenda }
 {
     if !is_known(receiver) || !is_known(sender) {
         return;
@@ -27,7 +28,8 @@ pub(crate) fn begins(packets: &mut PacketNetwork, receiver: HostId, sender: Host
 
 /// A receiver granted all of a message.
 pub(crate) fn closes(packets: &mut PacketNetwork, receiver: HostId)
-    ensures { packets.new ≡ packets.old }
+    ensures network { packets.new.state ≡ packets.old.state }
+    ensures agenda { packets.new.agenda ≡ packets.old.agenda }
 {
     if is_known(receiver) {
         packets.closes(receiver);
@@ -41,7 +43,8 @@ pub(crate) fn completes(
     sender: HostId,
     is_short: bool,
 )
-    ensures { packets.new ≡ packets.old }
+    ensures network { packets.new.state ≡ packets.old.state }
+    ensures agenda { packets.new.agenda ≡ packets.old.agenda }
 {
     if !is_known(receiver) || !is_known(sender) {
         return;

@@ -1,7 +1,7 @@
 // What a task makes of the network, and what happens in the world then.
-ghost use Rattle.std.specs.Prelude.{◌≡◌, ◌≤◌, ◌+◌, ◌-◌, ◌^◌, min, IfOk};
+ghost use Rattle.std.specs.Prelude.{◌≡◌, ◌+◌, ◌-◌, ◌^◌, min, IfOk};
 ghost use Rattle.simulated_network.specs.declared.step.RunStep.TheVariants as step;
-ghost use Rattle.simulated_network.specs.Runs.{drawn_after, delivered_by, bytes_of, IsQuiet};
+ghost use Rattle.simulated_network.specs.Runs.{IsQuiet, IsSame, IsKept, IsBegun};
 
 use crate::arrivals::DrawnCall;
 use crate::network::SimulatedNetwork;
@@ -21,13 +21,8 @@ pub(crate) fn happens(event: Event) -> RunStep
 impl SimulatedNetwork<'_> {
     /// A task begins.
     pub(crate) fn begins(&mut self, task: Task) -> Result<RunStep, NetworkStop>
-        ensures calls { self.new.calls ≡ self.old.calls }
-        ensures moment { self.new.network.moment ≡ self.old.network.moment }
-        ensures fates { self.new.network.fates ≡ self.old.network.fates }
-        ensures left_out { self.new.trouble.left_out ≡ self.old.trouble.left_out }
-        ensures drawn { IfOk result (λ step. self.new.drawn ≡ drawn_after step self.old.drawn) }
-        ensures delivered { IfOk result (λ step. delivered_by step ≡ 0) }
-        ensures bytes { IfOk result (λ step. bytes_of step ≤ 1000000) }
+        ensures kept { IsKept self.old self.new }
+        ensures step { IfOk result (λ step. IsBegun step self.old self.new) }
     {
         match task {
             Task::Clock => self.ticks(),
@@ -42,14 +37,14 @@ impl SimulatedNetwork<'_> {
 
     // The clock goes on, and turns are due.
     fn ticks(&mut self) -> Result<RunStep, NetworkStop>
-        ensures state { self.new ≡ self.old }
+        ensures same { IsSame self.old self.new }
         ensures step { IfOk result (λ step. IsQuiet step) }
     {
         let (tick, is_spread) = (
-            self.experiment.network.tick,
-            self.experiment.network.is_spread,
+            self.known.experiment.network.tick,
+            self.known.experiment.network.is_spread,
         );
-        let hosts = self.experiment.settings.hosts;
+        let hosts = self.known.experiment.settings.hosts;
         let now = self.packets.now();
         for host in 0..hosts {
             let late = if is_spread {
@@ -69,10 +64,11 @@ impl SimulatedNetwork<'_> {
         ensures calls { self.new.calls ≡ self.old.calls }
         ensures network { self.new.network ≡ self.old.network }
         ensures left_out { self.new.trouble.left_out ≡ self.old.trouble.left_out }
+        ensures load { self.new.load ≡ self.old.load }
         ensures drawn { self.new.drawn ≡ self.old.drawn }
         ensures step { IsQuiet result }
     {
-        let limit = u64::from(self.experiment.network.card_limit);
+        let limit = u64::from(self.known.experiment.network.card_limit);
         if is_known(host) && self.packets.card_bytes(host) > limit {
             self.trouble.held = self.trouble.held.saturating_add(1);
             return RunStep::Inside;
@@ -82,31 +78,26 @@ impl SimulatedNetwork<'_> {
 
     // A client makes calls now, and its next ones are due.
     fn calls(&mut self, client: HostId) -> Result<RunStep, NetworkStop>
-        ensures state { self.new ≡ self.old }
+        ensures same { IsSame self.old self.new }
         ensures step { IfOk result (λ step. IsQuiet step) }
     {
         let gap = self.arrivals.next_gap();
         let next = self.packets.now().saturating_add(gap);
         self.packets.enter(next, Task::Calls(client))?;
-        self.arrivals.begin(self.experiment, client);
+        self.arrivals.begin(self.known.experiment, client);
         Ok(RunStep::Inside)
     }
 
     // The call of a list with this number is made, and the next one is due.
     fn listed(&mut self, i: u32) -> Result<RunStep, NetworkStop>
-        ensures calls { self.new.calls ≡ self.old.calls }
-        ensures moment { self.new.network.moment ≡ self.old.network.moment }
-        ensures fates { self.new.network.fates ≡ self.old.network.fates }
-        ensures left_out { self.new.trouble.left_out ≡ self.old.trouble.left_out }
-        ensures drawn { IfOk result (λ step. self.new.drawn ≡ drawn_after step self.old.drawn) }
-        ensures delivered { IfOk result (λ step. delivered_by step ≡ 0) }
-        ensures bytes { IfOk result (λ step. bytes_of step ≤ 1000000) }
+        ensures kept { IsKept self.old self.new }
+        ensures step { IfOk result (λ step. IsBegun step self.old self.new) }
     {
-        let Some(call) = self.experiment.listed.get(i as usize) else {
+        let Some(call) = self.known.experiment.listed.get(i as usize) else {
             return Ok(RunStep::Inside);
         };
         let next = i.saturating_add(1);
-        if let Some(later) = self.experiment.listed.get(next as usize) {
+        if let Some(later) = self.known.experiment.listed.get(next as usize) {
             self.packets.enter(later.at, Task::Listed(next))?;
         }
         let asked = DrawnCall {
@@ -121,7 +112,7 @@ impl SimulatedNetwork<'_> {
     fn restart(&self, i: u32) -> RunStep
         ensures { IsQuiet result }
     {
-        match self.experiment.restarts.get(i as usize) {
+        match self.known.experiment.restarts.get(i as usize) {
             Some(restart) => happens(Event::Restart { host: restart.host }),
             None => RunStep::Inside,
         }
@@ -131,7 +122,7 @@ impl SimulatedNetwork<'_> {
     fn inject(&self, i: u32) -> RunStep
         ensures { IsQuiet result }
     {
-        match self.experiment.injections.get(i as usize) {
+        match self.known.experiment.injections.get(i as usize) {
             Some(injection) => RunStep::Event {
                 event: Event::Inject {
                     host: injection.host,
@@ -146,7 +137,7 @@ impl SimulatedNetwork<'_> {
     fn shift(&self, i: u32) -> RunStep
         ensures { IsQuiet result }
     {
-        match self.experiment.shifts.get(i as usize) {
+        match self.known.experiment.shifts.get(i as usize) {
             Some(shift) => happens(Event::Shift {
                 host: shift.host,
                 n: shift.ticks,
@@ -157,14 +148,12 @@ impl SimulatedNetwork<'_> {
 
     /// A call was drawn, or is the next of the list. Measuring may begin or end with it.
     pub(crate) fn call(&mut self, asked: &DrawnCall) -> RunStep
-        ensures calls { self.new.calls ≡ self.old.calls }
-        ensures moment { self.new.network.moment ≡ self.old.network.moment }
-        ensures fates { self.new.network.fates ≡ self.old.network.fates }
+        ensures kept { IsKept self.old self.new }
         ensures trouble { self.new.trouble ≡ self.old.trouble }
         ensures drawn { self.new.drawn ≡ min (self.old.drawn + 1) (2 ^ 32 - 1) }
         ensures step { result ≡ step.Call asked.now.client asked.now.server asked.now.bytes }
     {
-        let load = &self.experiment.load;
+        let load = &self.known.experiment.load;
         let drawn = self.arrivals.drawn();
         if drawn == load.warm {
             self.packets.restart();
@@ -172,10 +161,10 @@ impl SimulatedNetwork<'_> {
         }
         if drawn == load.warm + load.calls {
             self.window
-                .close(&self.packets, self.experiment.settings.hosts);
+                .close(&self.packets, self.known.experiment.settings.hosts);
         }
         self.window
-            .offers(wire_of_call(self.experiment, asked.bytes));
+            .offers(wire_of_call(self.known.experiment, asked.bytes));
         self.arrivals.count();
         RunStep::Call {
             client: asked.client,

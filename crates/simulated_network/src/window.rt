@@ -139,7 +139,7 @@ impl Window {
     /// Measuring ends.
     pub(crate) fn close(&mut self, packets: &PacketNetwork, hosts: u32)
         requires { hosts ≤ 32 }
-        ensures to { self.old.is_open ≡ true → self.new.to ≡ packets.now.moment }
+        ensures to { self.old.is_open ≡ true → self.new.to ≡ packets.now.state.moment }
         ensures is_closed { self.old.is_open ≡ true → self.new.is_closed ≡ true }
         ensures from { self.new.from ≡ self.old.from }
         ensures offered { self.new.offered ≡ self.old.offered }

@@ -39,8 +39,8 @@ const CALL: CallId = CallId {
     seq: 0,
 };
 
-// The request of the first call goes to its server, in one packet with a datagram of 144 bytes.
-fn send_request(rt: &impl Abort, network: &mut SimulatedNetwork<'_>) {
+// The first call is made.
+fn make_call(rt: &impl Abort, network: &mut SimulatedNetwork<'_>) {
     let made = Entry::Call {
         id: CALL,
         server: HostId(1),
@@ -48,8 +48,12 @@ fn send_request(rt: &impl Abort, network: &mut SimulatedNetwork<'_>) {
         bytes: &[7; 100],
     };
     assert!(rt; network.heed(&made, None).is_ok());
+}
+
+// The first 100 bytes of its request, which has so many, go to its server in a datagram of 144 bytes.
+fn send_request(rt: &impl Abort, network: &mut SimulatedNetwork<'_>, number: u64, length: u32) {
     let sent = Entry::Send {
-        number: 0,
+        number,
         from: HostId(0),
         to: HostId(1),
         inc: 1,
@@ -57,7 +61,7 @@ fn send_request(rt: &impl Abort, network: &mut SimulatedNetwork<'_>) {
         id: CALL,
         level: 7,
         body: Body::Data {
-            length: 100,
+            length,
             offset: 0,
             version: 0,
             service: 1,
@@ -82,7 +86,8 @@ fn a_packet_takes_its_bytes_on_two_links(rt: HostRuntime) {
     };
     assert_eq!(&rt; next_news(&rt, &mut network), call);
     assert_eq!(&rt; (network.drawn(), network.now()), (1, 5000));
-    send_request(&rt, &mut network);
+    make_call(&rt, &mut network);
+    send_request(&rt, &mut network, 0, 100);
     let delivery = RunStep::Event {
         event: Event::Deliver { packet: 0 },
         bytes: 0,
@@ -109,6 +114,45 @@ fn a_packet_takes_its_bytes_on_two_links(rt: HostRuntime) {
         window.links.idle(),
         (4 * u128::from(window.to.saturating_sub(window.from))).saturating_sub(168_000)
     );
+}
+
+// Goes on until a moment is over.
+fn pass(rt: &impl Abort, network: &mut SimulatedNetwork<'_>, moment: u64) {
+    for _ in 0..100 {
+        if network.now() > moment {
+            return;
+        }
+        let _ = network.next(0).expect(rt, "it stops");
+    }
+}
+
+// The first piece comes to its server, which gives up the request at once. It comes again, and from then on the request is incomplete
+// there. Turns are at 2,500, 3,125, 3,750 and 4,375 ns.
+#[test]
+fn a_request_that_was_given_up_may_come_anew(rt: HostRuntime) {
+    let text =
+        "hosts 4\ndelay 700\nswitch 250\nhost-delay 0\nlink 10000\noverhead 66\ntick 2500\ncall 0 1 100 5\n";
+    let experiment = experiment_of(&rt, rt.alloc(), text);
+    let mut network = SimulatedNetwork::open(rt.alloc(), &experiment, 1).expect(&rt, "no memory");
+    let _ = next_news(&rt, &mut network);
+    make_call(&rt, &mut network);
+    send_request(&rt, &mut network, 0, 3000);
+    let _ = next_news(&rt, &mut network);
+    let given_up = Entry::Drop {
+        host: HostId(1),
+        id: CALL,
+    };
+    assert!(&rt; network.heed(&given_up, None).is_ok());
+    send_request(&rt, &mut network, 1, 3000);
+    let _ = next_news(&rt, &mut network);
+    assert_eq!(&rt;
+        network.now(),
+        5000 + 2 * (2 * (210 * 800 + 700_000) + 250_000)
+    );
+    pass(&rt, &mut network, 3_977_000);
+    let outcome = network.finish(3);
+    assert_eq!(&rt; (outcome.trouble.dropped, outcome.ended), (1, 4_375_000));
+    assert_eq!(&rt; outcome.window.links.unsent, 4_375_000 - 3_977_000);
 }
 
 #[test]

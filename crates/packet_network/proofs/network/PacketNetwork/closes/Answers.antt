@@ -1,0 +1,14 @@
+use Rattle.std.proofs.Common.{◌≡◌, map, set, subst}
+use Rattle.run_gauges.specs.Receivers.{known_of, closes}
+use Rattle.packet_network.specs.States.{WholeNetwork, at_receiver}
+use Rattle.packet_network.proofs.ReceiverLaws.{was_told}
+use Rattle.packet_network.proofs.network.PacketNetwork.closes.Goals as goal
+
+pub returns-clause-receivers : goal.returns-clause-receivers
+returns-clause-receivers c =
+    let rs = c.self.inside.paths.flow.receivers.items in
+    subst
+    (λ (n : WholeNetwork). map known_of (set rs c.args.host.0 c.closes.new.self) ≡ at_receiver c.args.host.0 (closes n.state.moment) n.receivers)
+    c.self.view_is
+    (was_told rs c.args.host.0 c.closes.new.self c.index_mut.result.now c.now.result c.self.inside.paths.flow.agenda.moment closes
+    c.self.inside.paths.flow.all_receivers c.requires c.index_mut.ensures.value c.now.ensures c.closes.ensures.known)
