@@ -57,7 +57,8 @@ pub made_counts : (load : Load) (cs ds : List SimCall) (c : SimCall) (b : Bool) 
     → is_open c.end ≡ true → ds ≡ cs ++ c ∷ [] → n ≡ unended_of load cs → more ≡ (if b then 1 else 0) → most ≡ length ds → most < 2 ^ 64
     → min (min (n + more) (2 ^ 64 - 1)) most ≡ unended_of load ds
 made_counts load cs ds c b n more most measured is behind before one all few =
-    let counts : more ≡ one_unended load c = one ∙ (sym (one_opened b) ∙ (ap (λ (x : Bool). one_if x true) measured ∙ ap (one_if (is_measured load c.drawn)) (sym is))) in
+    let counts : more ≡ one_unended load c =
+    one ∙ (sym (one_opened b) ∙ (ap (λ (x : Bool). one_if x true) measured ∙ ap (one_if (is_measured load c.drawn)) (sym is))) in
     omega (arith, counts, before, all, few, unended_most load ds, ap (unended_of load) behind, unended_behind load cs c)
 
 -- what is counted when a call ends
@@ -66,7 +67,8 @@ pub end_counts : (load : Load) (cs : List SimCall) (i : ℕ) (c d : SimCall) (b 
     → n - less ≡ unended_of load (slice_set cs i c)
 end_counts load cs i c d b n less at measured is ended before one =
     let same : get_or cs i d ≡ d = sym (unwrap_or-slice_get cs i d) ∙ ap (λ (o : Option SimCall). unwrap_or o d) at in
-    let counts : less ≡ one_unended load d = one ∙ (sym (one_opened b) ∙ (ap (λ (x : Bool). one_if x true) measured ∙ ap (one_if (is_measured load d.drawn)) (sym is))) in
+    let counts : less ≡ one_unended load d =
+    one ∙ (sym (one_opened b) ∙ (ap (λ (x : Bool). one_if x true) measured ∙ ap (one_if (is_measured load d.drawn)) (sym is))) in
     let none : one_unended load c ≡ 0 = ap (one_if (is_measured load c.drawn)) ended ∙ none_ended (is_measured load c.drawn) in
     omega (arith, sum_by-set (one_unended load) cs i c d (slice_get_within cs i d at), ap (one_unended load) same, counts, none, before)
 

@@ -8,7 +8,9 @@ pub returns-clause-receivers : goal.returns-clause-receivers
 returns-clause-receivers c =
     let rs = c.self.inside.paths.flow.receivers.items in
     subst
-    (λ (n : WholeNetwork). map known_of (set rs c.args.host.0 c.completes.new.self) ≡ at_receiver c.args.host.0 (completes n.state.moment c.args.sender.0) n.receivers)
+    (λ (n : WholeNetwork). map known_of (set rs c.args.host.0 c.completes.new.self) ≡ at_receiver c.args.host.0
+    (completes n.state.moment c.args.sender.0) n.receivers)
     c.self.view_is
-    (was_told rs c.args.host.0 c.completes.new.self c.index_mut.result.now c.now.result c.self.inside.paths.flow.agenda.moment (λ (m : ℕ). completes m c.args.sender.0)
+    (was_told rs c.args.host.0 c.completes.new.self c.index_mut.result.now c.now.result c.self.inside.paths.flow.agenda.moment
+    (λ (m : ℕ). completes m c.args.sender.0)
     c.self.inside.paths.flow.all_receivers c.requires.host c.index_mut.ensures.value c.now.ensures c.completes.ensures.known)
