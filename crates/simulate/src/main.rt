@@ -1,7 +1,7 @@
 //! The program: runs an experiment on standard input in a simulated network, and prints what is asked of the runs.
 //!
 //! The first word says what is printed: `summary` is a page for people, `figures`, `totals` and `calls` are CSV, or JSON lines, and
-//! `schedule` is a schedule that `homa replay` takes. All begin with all values of the experiment.
+//! `schedule` is a schedule for `homa replay`. All begin with all values of the experiment.
 #![tactic(auto)]
 
 mod answering;

@@ -19,7 +19,7 @@ use Rattle.homa_replay.proofs.Fronts.{nothing_appended, wrote_more, front_after,
 use Rattle.homa_world.specs.declared.shown.Passing.{Passing}
 use Rattle.simulated_network.specs.declared.step.RunStep.{RunStep}
 use Rattle.simulated_network.specs.declared.step.RunStep.TheVariants as step
-use Rattle.simulation.specs.Turns.{Turn, Waited, LeftOut, Happened, happenings, told_of, line_of, IsWait, Asks, IsFull, HasHappened, AreTurns}
+use Rattle.simulation.specs.Turns.{Turn, Waited, LeftOut, Happened, happenings, told_of, line_of, IsWait, Asks, IsFull, HasRoom, HasHappened, AreTurns}
 use Rattle.simulation.specs.Runs.{said, At, HasRun, HasStopped, IsRun, IsPart}
 use Rattle.simulation.proofs.TurnLaws.{happenings-append, told_of-append, turns_on, carried_of}
 
@@ -88,16 +88,17 @@ module _ {N : Type 0} (gives : N → ℕ → RunStep → N → Type 0) (heeds : 
 
   -- an event happened
   pub one_event : (w : World) (a b : At N) (m : N) (given : RunStep) (e : Happening) (stands : World → Type 0) (before after : List PlainEntry → Type 0)
-      → gives a.network w.clock given m → Asks service given e → HasHappened heeds s w e m b.network stands before after
+      → gives a.network w.clock given m → Asks service given e → HasRoom s w given → HasHappened heeds s w e m b.network stands before after
       → b.events ≡ a.events + 1 → b.taken ≡ appended a.taken (said prints (line_of e))
       → HasRun gives heeds leaves s service prints w a b stands before after
-  one_event w a b m given e stands before after gave asks happened counted printed = record {
+  one_event w a b m given e stands before after gave asks room happened counted printed = record {
     turns = Happened e happened.told happened.next ∷ [];
     end = happened.next;
     stood = happened.stood;
     led = record {
       given = given;
       asks = asks;
+      room = room;
       asked = m;
       gave = gave;
       done = happened.done;

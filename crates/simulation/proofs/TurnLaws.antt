@@ -49,6 +49,7 @@ module _ {N : Type 0} (gives : N → ℕ → RunStep → N → Type 0) (heeds : 
   turns_on (Happened e told after ∷ ts) us w v x a b c first rest = record {
     given = first.given;
     asks = first.asks;
+    room = first.room;
     asked = first.asked;
     gave = first.gave;
     done = first.done;

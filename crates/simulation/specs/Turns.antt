@@ -1,5 +1,5 @@
 -- The turns of a run: in each the network gives a step, and heeds what the event told, if the step is one.
-use Rattle.std.specs.Prelude.{◌≡◌, ◌≤◌, ℕ, Option, None, List, [], ◌∷◌, ◌++◌}
+use Rattle.std.specs.Prelude.{◌≡◌, ◌≤◌, ◌<◌, ℕ, Option, None, List, [], ◌∷◌, ◌++◌}
 use Rattle.homa_plain.specs.declared.id.HostId.{HostId}
 use Rattle.homa_plain.specs.declared.settings.Settings.{Settings}
 use Rattle.homa_plain.specs.declared.event.Event.{Event}
@@ -68,6 +68,13 @@ Asks service (step.Call client server bytes) h = h ≡ beside (event.Call client
 abbrev pub IsFull : Settings → World → HostId → Type 0
 IsFull s w client = s.calls ≤ live_at (host_at w client)
 
+-- the client has fewer, if the step asks for a call
+abbrev pub HasRoom : Settings → World → RunStep → Type 0
+HasRoom s w step.Over = Unit {0}
+HasRoom s w step.Inside = Unit {0}
+HasRoom s w (step.Event e bytes) = Unit {0}
+HasRoom s w (step.Call client server bytes) = live_at (host_at w client) < s.calls
+
 -- this is shown of an entry's packet: nothing, if the entry isn't of one that was sent
 abbrev pub IsShown : Settings → World → PlainEntry → Option Passing → Type 0
 IsShown s w (PlainSend number from to inc role id level body payload) passing = IsOf s w number passing
@@ -113,11 +120,13 @@ module _ {N : Type 0} (gives : N → ℕ → RunStep → N → Type 0) (heeds : 
     pub left : leaves a next
     pub rest : goes_on next
 
-  -- It gave an event, which the plain world did, heeded each entry that it told, and went on from there.
+  -- It gave an event, which the plain world did, heeded each entry that it told, and went on from there. If the event is a call, its
+  -- client had room for it.
   pub record IsTaken (s : Settings) (service : ℕ) (w : World) (e : Happening) (told : List PlainEntry) (next : World) (a : N)
       (goes_on : N → Type 0) : Type 0 where
     pub given : RunStep
     pub asks : Asks service given e
+    pub room : HasRoom s w given
     pub asked : N
     pub gave : gives a w.clock given asked
     pub done : IsDone s w e (shown told) next told

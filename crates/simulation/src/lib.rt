@@ -3,7 +3,8 @@
 //! Model: a run is a list of turns. In each the network gives a step. If that is an event, the plain world does it, and the
 //! network heeds each entry that it tells, with what the world shows of its packet.
 //! Main promise: the events of a run are the plain world's, one after the other, with the answers that its own `run` lines
-//! show. If they are printed, the sink took the settings and the line of each event, and nothing else.
+//! show. If they are printed and the run came to its end, the sink took the settings and the line of each event, and nothing
+//! else.
 #![tactic(auto)]
 
 mod events;

@@ -127,8 +127,8 @@ pub(crate) fn play<P: GenerateWorld, N: HostNetwork, K: Sink, T: Telling>(
 }
 
 /// Runs an experiment with a seed in a world with these boxes, in which nothing has happened. If `prints`, the sink takes the
-/// settings and the line of each event, which is a schedule. After a stop it took a front of one; the event at which the world
-/// stopped is its last.
+/// settings and the line of each event, which is a schedule. After a stop it took a prefix of one, in which at most one event stands
+/// that didn't happen.
 pub fn simulate<B: Drop, P: GenerateWorld + OpenWorld<B> + Drop, K: Sink, T: Telling>(
     alloc: Global,
     experiment: &Experiment,

@@ -11,7 +11,7 @@ pub enum SimStop {
     NoMemory,
     /// The sink gave a fault.
     Write,
-    /// The world refused an event, which is the last one that was printed.
+    /// The world refused an event.
     Refused(WorldFault),
     /// A moment or a number of steps is above what a run may have.
     TooLong,

@@ -1,5 +1,5 @@
 -- A step without an event, a call that isn't made, or an event.
-use Rattle.std.proofs.Common.{◌≡◌, ◌≤◌, ℕ, ap, refl, arith}
+use Rattle.std.proofs.Common.{◌≡◌, ◌≤◌, ◌<◌, ℕ, ap, refl, arith}
 use Rattle.std.proofs.lemmas.Result.{MatchResult-from_err}
 use Rattle.homa_plain.specs.declared.settings.Settings.{Settings}
 use Rattle.homa_plain.specs.declared.event.Event.TheVariants as event
@@ -49,11 +49,14 @@ pub returns-in_ok-happen-in-Event-clause-ran : goal.returns-in_ok-happen-in-Even
 returns-in_ok-happen-in-Event-clause-ran g c = λ w h.
     let e = c.in_ok-happen-in-Event.ensures in
     one_event _ _ _ _ _ _ w _ _ c.next.new.self (step.Event c.in-Event.event c.in-Event.bytes) (beside c.in-Event.event c.in-Event.bytes) _ _ _
-    (gave_as g.N.HostNetwork.gives _ _ _ _ _ _ (c.clock.ensures w h) c.in-Event.is c.in_ok-next.ensures) refl (e.happened w h) e.counted e.printed
+    (gave_as g.N.HostNetwork.gives _ _ _ _ _ _ (c.clock.ensures w h) c.in-Event.is c.in_ok-next.ensures) refl tt (e.happened w h) e.counted e.printed
 
 pub returns-in_ok-happen-in-Call-clause-ran : goal.returns-in_ok-happen-in-Call-clause-ran
 returns-in_ok-happen-in-Call-clause-ran g c = λ w h.
+    let p = g.P.ReplayWorld in
     let e = c.in_ok-happen-in-Call.ensures in
+    let room : live_at (host_at w c.in-Call.client) < (p.settings c.args.world.now).calls =
+    omega (arith, c.if-setup-live.false, c.live.ensures w h, ap (λ (s : Settings). s.calls) c.requires.settings) in
     one_event _ _ _ _ _ _ w _ _ c.next.new.self (step.Call c.in-Call.client c.in-Call.server c.in-Call.bytes)
     (beside (event.Call c.in-Call.client c.in-Call.server c.args.setup.now.service) c.in-Call.bytes) _ _ _
-    (gave_as g.N.HostNetwork.gives _ _ _ _ _ _ (c.clock.ensures w h) c.in-Call.is c.in_ok-next.ensures) refl (e.happened w h) e.counted e.printed
+    (gave_as g.N.HostNetwork.gives _ _ _ _ _ _ (c.clock.ensures w h) c.in-Call.is c.in_ok-next.ensures) refl room (e.happened w h) e.counted e.printed

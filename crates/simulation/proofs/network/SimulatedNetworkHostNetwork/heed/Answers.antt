@@ -5,4 +5,4 @@ use Rattle.simulation.proofs.network.SimulatedNetworkHostNetwork.heed.Goals as g
 pub returns : goal.returns
 returns c =
     let e = c.heed.ensures in
-    heeds_of _ _ c.heed.result _ c.args.passing c.datagram_of.result c.datagram_of.ensures e.made e.sent e.delivered e.moment e.drawn e.left_out
+    heeds_of _ _ c.heed.result _ c.args.passing c.datagram_of.result c.datagram_of.ensures e.made e.sent e.stays
