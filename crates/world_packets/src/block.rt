@@ -19,8 +19,9 @@ pub(crate) const LONGEST: usize = 1444;
 // What a short datagram has, in bytes: so many packets a tick of full room has at most, unless there are shorter ones.
 const SHORT: usize = 128;
 
-// From how many bytes on a block's room is worth keeping.
-const DENSE: usize = 16384;
+// From how many bytes on a block's room is worth keeping: what of it is empty has less than its packets. Simulated networks keep
+// hundreds of blocks of fewer bytes.
+const DENSE: usize = 65_536;
 
 /// Packets of a tick.
 #[derive(Drop)]
@@ -72,9 +73,9 @@ impl Block {
         self.bytes.len()
     }
 
-    /// Whether its room is worth keeping: it has 16,384 bytes or more.
+    /// Whether its room is worth keeping: it has 65,536 bytes or more.
     pub(crate) fn is_dense(&self) -> bool
-        ensures { result ≡ nat_le 16384 (size_of self.now) }
+        ensures { result ≡ nat_le 65536 (size_of self.now) }
     {
         DENSE <= self.bytes.len()
     }
