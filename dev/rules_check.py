@@ -74,8 +74,13 @@ def is_law(name, place):
     return any(has_function(name, path) for path in sources(place))
 
 
+def is_file(name, place):
+    """Whether a name is that of a file of data."""
+    return os.path.isfile(os.path.join(TOP, f"crates/{place}/{name}"))
+
+
 def is_row(name, place):
-    return has_function(name, place) or has_theorem(name, place)
+    return has_function(name, place) or has_theorem(name, place) or is_file(name, place)
 
 
 KINDS = {"definition": is_definition, "code": has_function, "law": is_law, "row or test": is_row}
@@ -88,6 +93,8 @@ def elsewhere(name, path):
 
 def file_of(name, place, column):
     """The file below `crates/` in which a name of a column stands."""
+    if column == "row or test" and is_file(name, place):
+        return f"{place}/{name}"
     if "/" not in place:
         place = next((p for p in sources(place) if has_function(name, p)), place) if column == "law" else f"homa_plain/specs/{place}"
     return next((place + end for end in (".rt", ".antt") if os.path.isfile(os.path.join(TOP, f"crates/{place}{end}"))), place)

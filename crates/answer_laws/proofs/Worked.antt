@@ -10,7 +10,7 @@ use Rattle.plain_sets.specs.Numbers.{with_range, without_range, within, ranges, 
 use Rattle.plain_sets.specs.Ordered.{ordered, firsts}
 use Rattle.homa_plain.specs.declared.packet.Role.TheVariants.{Client, Server}
 use Rattle.homa_plain.specs.Settings.{usual}
-use Rattle.homa_plain.specs.Choice.{due}
+use Rattle.homa_plain.specs.Timers.{due}
 use Rattle.homa_plain.specs.Cutoffs.{level_of, noted, least_from, bounds}
 use Rattle.homa_plain.specs.Entries.{PlainEntry, PlainSettings, PlainCall, PlainClock, PlainDeliver, PlainRun, PlainDone}
 use Rattle.homa_plain.specs.Script.{opening, opening_from, steps_from, phrase_in, bytes_of_word}

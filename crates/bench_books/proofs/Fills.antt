@@ -8,7 +8,7 @@ use Rattle.plain_sets.proofs.OrderLaws.{all_weaker, placed-all, ordered-all}
 use Rattle.plain_sets.proofs.OrderSame.{all_at, filter-all}
 use Rattle.plain_sets.proofs.OrderFirst.{all_from}
 use Rattle.plain_sets.proofs.FirstLaws.{firsts-all}
-use Rattle.homa_plain.specs.Choice.{chosen_by}
+use Rattle.homa_plain.specs.Grants.{chosen_by}
 use Rattle.homa_grants.specs.Books.{Book}
 use Rattle.homa_grants.specs.Entries.{Entry, entry_key, entry_peer, entry_of, without, entered, with_remaining, IsOwnOrder}
 use Rattle.homa_grants.proofs.EntryLaws.{found-passes, none-passes}

@@ -13,7 +13,7 @@ ghost use Rattle.plain_sets.specs.Ordered.{ordered, firsts};
 ghost use Rattle.homa_plain.specs.declared.id.CallId.{CallId};
 ghost use Rattle.homa_plain.specs.declared.id.HostId.{HostId};
 ghost use Rattle.homa_plain.specs.Entries.{PlainEntry};
-ghost use Rattle.homa_plain.specs.Choice.{Message, sender, choice_key};
+ghost use Rattle.homa_plain.specs.Grants.{Message, sender, choice_key};
 ghost use Rattle.trace_rules.specs.View.{View, Sent, has_run, life, has_last};
 ghost use Rattle.trace_rules.specs.Seen.{seen};
 ghost use Rattle.trace_rules.specs.Laws.{answers};

@@ -11,7 +11,8 @@ use Rattle.plain_sets.proofs.OrderSame.{here, at_head, none_in}
 use Rattle.homa_plain.specs.declared.id.CallId.{CallId}
 use Rattle.homa_plain.specs.declared.packet.Body.TheVariants as body
 use Rattle.homa_plain.specs.declared.settings.Settings.{Settings}
-use Rattle.homa_plain.specs.Choice.{Message, new_end, grants_from, chosen, grants, sender, choice_key, least}
+use Rattle.homa_plain.specs.Grants.{Message, new_end, grants_from, chosen, grants, sender, choice_key}
+use Rattle.homa_plain.specs.SentNext.{least}
 use Rattle.homa_plain.specs.Incoming.{Incoming}
 use Rattle.homa_plain.specs.Outgoing.{next_range}
 use Rattle.homa_plain.specs.Rows.{ClientRow, ServerRow, State, Receiving, Held, Replying, Buried}

@@ -9,7 +9,8 @@ use Rattle.plain_sets.proofs.OrderLaws.{ordered-nil}
 use Rattle.plain_sets.proofs.OrderSame.{here, none_in, at_head, there}
 use Rattle.plain_sets.proofs.OrderFirst.{first-ordered}
 use Rattle.homa_plain.specs.declared.settings.Settings.{Settings}
-use Rattle.homa_plain.specs.Choice.{due, least, most_acts}
+use Rattle.homa_plain.specs.Timers.{due, most_acts}
+use Rattle.homa_plain.specs.SentNext.{least}
 use Rattle.homa_plain.specs.Host.{Host}
 use Rattle.homa_plain.specs.Limits.{last_host_tick}
 use Rattle.homa_plain.specs.Timers.{Timer, timer_key, timers}

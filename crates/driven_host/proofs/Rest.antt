@@ -7,7 +7,7 @@ use Rattle.plain_sets.specs.Maps.{empty}
 use Rattle.plain_sets.specs.Ordered.{ordered, firsts}
 use Rattle.homa_plain.specs.declared.id.HostId.{HostId}
 use Rattle.homa_plain.specs.declared.settings.Settings.{Settings}
-use Rattle.homa_plain.specs.Choice.{grants_from}
+use Rattle.homa_plain.specs.Grants.{grants_from}
 use Rattle.homa_plain.specs.Host.{Host}
 use Rattle.homa_plain.specs.Packets.{Packet}
 use Rattle.homa_plain.specs.Rules.{Answer}

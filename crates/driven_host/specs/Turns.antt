@@ -1,7 +1,7 @@
 -- Turns that do nothing, and ticks at which a turn may do something.
 use Rattle.std.specs.Prelude.{◌≡◌, ◌≢◌, ◌⊎◌, ◌+◌, ◌≤◌, ℕ, nat_le, if◌then◌else◌, Option, Some, None, List, [], Contains}
 use Rattle.homa_plain.specs.declared.settings.Settings.{Settings}
-use Rattle.homa_plain.specs.Choice.{Granted, grants}
+use Rattle.homa_plain.specs.Grants.{Granted, grants}
 use Rattle.homa_plain.specs.Host.{Host}
 use Rattle.homa_plain.specs.Limits.{last_host_tick}
 use Rattle.homa_plain.specs.Timers.{Timer, timers}

@@ -23,7 +23,7 @@ use Rattle.homa_plain.specs.declared.packet.Role.{Role}
 use Rattle.homa_plain.specs.Calls.{is_host, is_call, call_cmp}
 use Rattle.homa_plain.proofs.CallOrder.{call_total, call_same, calls_are}
 use Rattle.trace_rules.specs.Parts.{Part, Parts, is_message}
-use Rattle.homa_plain.specs.Choice.{sender, choice_key, new_end, chosen, grants_from}
+use Rattle.homa_plain.specs.Grants.{sender, choice_key, new_end, chosen, grants_from}
 use Rattle.trace_rules.specs.Granting.{Arriving, message, arriving, incoming, told, allowed}
 use Rattle.trace_rules.specs.Judge.{is_grant}
 use Rattle.trace_rules.specs.View.{View}

@@ -1,4 +1,4 @@
--- The incoming messages of a host, and the GRANTs that it may send.
+-- The incoming messages of a host, and the GRANTs that it may send, by the rules of `homa_plain/specs/Grants`.
 use Rattle.std.specs.Prelude.{ℕ, suc, ◌+◌, ◌-◌, ◌&&◌, ◌||◌, Bool, false, nat_lt, min, Option, option_and_then, List, [], ◌∷◌}
 use Rattle.std.specs.Option.{option_map}
 use Rattle.plain_sets.specs.Maps.{len}

@@ -15,7 +15,7 @@ use Rattle.plain_sets.proofs.OrderLaws.{all_weaker}
 use Rattle.plain_sets.proofs.OrderSame.{ordered-sorted}
 use Rattle.plain_sets.proofs.FirstLaws.{firsts-all}
 use Rattle.plain_sets.proofs.MapMembers.{same_some}
-use Rattle.homa_plain.specs.Choice.{chosen_by}
+use Rattle.homa_plain.specs.Grants.{chosen_by}
 use Rattle.homa_plain.specs.declared.id.HostId.{HostId}
 use Rattle.homa_grants.specs.Entries.{Entry, entry_key, entry_peer, entries_of}
 use Rattle.homa_grants.specs.Books.{Book, IsSound, IsWithin}

@@ -1,4 +1,4 @@
--- A book of messages.
+-- A book of messages. Which of them are granted to is in `homa_plain/specs/Grants`.
 use Rattle.std.specs.Prelude.{ℕ, ◌<◌, ◌≤◌, List, refl}
 use Rattle.std.specs.List.{AllByRecursion}
 use Rattle.std.specs.Coded.{Coded, code_by, coded×, coded_list, coded_ℕ}

@@ -5,7 +5,7 @@ ghost use Rattle.std.specs.Prelude.{◌≡◌, ℕ, ◌<◌, ◌≤◌, ◌+◌,
 ghost use Rattle.std.specs.Option.{option_map, ForSome};
 ghost use Rattle.place_heap.specs.Held.{list_of};
 ghost use Rattle.homa_plain.specs.Settings.{IsValid};
-ghost use Rattle.homa_plain.specs.Choice.{chosen_by};
+ghost use Rattle.homa_plain.specs.Grants.{chosen_by};
 ghost use Rattle.homa_grants.specs.Entries.{entry_key, entry_peer, without, entry_of, entered, with_remaining, IsOwnOrder, placed_if};
 ghost use Rattle.homa_grants.specs.Books.{IsSound};
 ghost use Rattle.homa_grants.specs.Heaps.{slot_items, peer_items, message_at};

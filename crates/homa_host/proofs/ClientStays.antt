@@ -8,7 +8,7 @@ use Rattle.homa_plain.proofs.CallOrder.{call_total, call_same}
 use Rattle.plain_sets.proofs.OrderSame.{all_at}
 use Rattle.homa_plain.specs.declared.id.CallId.{CallId}
 use Rattle.homa_plain.specs.declared.settings.Settings.{Settings}
-use Rattle.homa_plain.specs.Choice.{seen}
+use Rattle.homa_plain.specs.Grants.{seen}
 use Rattle.homa_plain.specs.Host.{Host}
 use Rattle.homa_plain.specs.Incoming.{Incoming}
 use Rattle.homa_plain.specs.Rows.{ClientRow, RowsOf, set_row}

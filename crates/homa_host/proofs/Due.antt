@@ -11,7 +11,7 @@ use Rattle.plain_sets.proofs.OrderFirst.{all_from, first-ordered}
 use Rattle.plain_sets.proofs.MapMembers.{same_some}
 use Rattle.homa_plain.specs.declared.id.CallId.{CallId}
 use Rattle.homa_plain.specs.declared.settings.Settings.{Settings}
-use Rattle.homa_plain.specs.Choice.{due}
+use Rattle.homa_plain.specs.Timers.{due}
 use Rattle.homa_plain.specs.Host.{Host}
 use Rattle.homa_plain.specs.Rows.{ClientRow, ServerRow}
 use Rattle.homa_plain.specs.Timers.{Place, OfClient, OfServer, Timer, timer, timer_key, timers, client_deadline, server_deadline}

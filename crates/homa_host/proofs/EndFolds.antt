@@ -2,7 +2,7 @@
 use Rattle.std.proofs.Common.{◌≡◌, ◌<◌, ◌≤◌, ◌+◌, Option, Some, None, List, [], length, refl, sym, ap, subst, ◌∙◌, arith}
 use Rattle.std.proofs.lemmas.List.{length-map}
 use Rattle.homa_plain.specs.declared.settings.Settings.{Settings}
-use Rattle.homa_plain.specs.Choice.{least}
+use Rattle.homa_plain.specs.SentNext.{least}
 use Rattle.homa_plain.specs.Host.{Host, packets_in}
 use Rattle.homa_plain.specs.SentNext.{Leaving, leaving_key, departures}
 use Rattle.homa_plain.specs.Work.{Work}

@@ -5,7 +5,7 @@ use Rattle.std.proofs.lemmas.List.{length-map, length-drop, drop_all}
 use Rattle.plain_sets.specs.Ordered.{SendersDiffer}
 use Rattle.plain_sets.proofs.OrderLaws.{all_weaker}
 use Rattle.homa_plain.specs.declared.settings.Settings.{Settings}
-use Rattle.homa_plain.specs.Choice.{chosen, chosen_by, sender}
+use Rattle.homa_plain.specs.Grants.{chosen, chosen_by, sender}
 use Rattle.homa_plain.specs.Host.{Host}
 use Rattle.homa_plain.specs.Sending.{Arriving, arrivals}
 use Rattle.homa_plain.specs.Work.{Work}

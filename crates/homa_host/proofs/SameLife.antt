@@ -10,7 +10,9 @@ use Rattle.homa_plain.specs.declared.packet.Role.TheVariants.{Client, Server}
 use Rattle.homa_plain.specs.declared.packet.Body.{Body}
 use Rattle.homa_plain.specs.declared.packet.Body.TheVariants as body
 use Rattle.homa_plain.specs.declared.settings.Settings.{Settings}
-use Rattle.homa_plain.specs.Choice.{due, least, grants, Granted}
+use Rattle.homa_plain.specs.Timers.{due}
+use Rattle.homa_plain.specs.SentNext.{least}
+use Rattle.homa_plain.specs.Grants.{grants, Granted}
 use Rattle.homa_plain.specs.Outgoing.{next_range}
 use Rattle.homa_plain.specs.Packets.{Packet, sender, acks}
 use Rattle.homa_plain.specs.Rows.{ClientRow, ServerRow, set_row, State, Receiving, Held, Replying, Buried}

@@ -9,7 +9,7 @@ use Rattle.homa_plain.proofs.CallOrder.{calls_are}
 use Rattle.homa_plain.specs.Calls.{is_call}
 use Rattle.homa_plain.specs.declared.id.CallId.{CallId}
 use Rattle.homa_plain.specs.declared.settings.Settings.{Settings}
-use Rattle.homa_plain.specs.Choice.{seen}
+use Rattle.homa_plain.specs.Grants.{seen}
 use Rattle.homa_plain.specs.Host.{Host}
 use Rattle.homa_plain.specs.Rows.{ServerRow, State, Receiving, Held, Replying, Buried, set_row}
 use Rattle.homa_plain.specs.Sending.{Arriving as Arrives, arrivals, arriving_at_server}

@@ -3,7 +3,7 @@ use Rattle.std.proofs.Common.{◌≡◌, ◌≤◌, ℕ, zero, suc, Option, Some
 use Rattle.std.specs.Option.{option_map}
 use Rattle.plain_sets.specs.Ordered.{first_of}
 use Rattle.homa_plain.specs.declared.settings.Settings.{Settings}
-use Rattle.homa_plain.specs.Choice.{due}
+use Rattle.homa_plain.specs.Timers.{due}
 use Rattle.homa_plain.specs.Timers.{Timer, timer_key, timers}
 use Rattle.homa_plain.specs.Work.{Work, now_of}
 use Rattle.homa_plain.specs.Steps.{acts}

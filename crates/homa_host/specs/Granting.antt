@@ -1,10 +1,10 @@
--- A message that arrives, and what is granted of it.
+-- A message that arrives, and what is granted of it. To which, at which priority: `homa_plain/specs/Grants`.
 use Rattle.std.specs.Prelude.{◌≡◌, ◌≤◌, ℕ, List, Contains}
 use Rattle.homa_plain.specs.declared.id.CallId.{CallId}
 use Rattle.homa_plain.specs.declared.id.HostId.{HostId}
 use Rattle.homa_plain.specs.declared.packet.Body.TheVariants as body
 use Rattle.homa_plain.specs.declared.packet.Role.{Role}
-use Rattle.homa_plain.specs.Choice.{seen as message_of}
+use Rattle.homa_plain.specs.Grants.{seen as message_of}
 use Rattle.homa_plain.specs.Sending.{Arriving, arrivals}
 use Rattle.homa_plain.specs.Work.{Work, posts}
 use Rattle.homa_plain.specs.Steps.{grants_at}

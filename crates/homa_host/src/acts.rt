@@ -5,7 +5,7 @@ ghost use Rattle.std.specs.Prelude.{◌≡◌, ◌+◌, ◌<◌, ◌≤◌, ◌^
 ghost use Rattle.std.specs.Option.{option_map};
 ghost use Rattle.plain_sets.specs.Ordered.{first_of};
 ghost use Rattle.homa_plain.specs.declared.id.CallId.{CallId};
-ghost use Rattle.homa_plain.specs.Choice.{due};
+ghost use Rattle.homa_plain.specs.Timers.{due};
 ghost use Rattle.homa_plain.specs.Timers.{OfClient, OfServer, server_deadline, timers, timer_key as plain_key};
 ghost use Rattle.homa_plain.specs.Work.{Work, now_of};
 ghost use Rattle.homa_plain.specs.Steps.{acts, acts_at};

@@ -2,7 +2,7 @@
 // Rules: a GRANT to each chosen message (overcommitment), up to `window` bytes beyond those that arrived, with a
 // priority by SRPT.
 ghost use Rattle.std.specs.Prelude.{◌≡◌, ◌+◌, ◌≤◌, IsSomeAnd, option_copied};
-ghost use Rattle.homa_plain.specs.Choice.{new_end, seen as message_of};
+ghost use Rattle.homa_plain.specs.Grants.{new_end, seen as message_of};
 ghost use Rattle.homa_plain.specs.Sending.{Arriving};
 ghost use Rattle.homa_plain.specs.Work.{Work};
 ghost use Rattle.homa_plain.specs.Steps.{gives_grants};

@@ -2,7 +2,7 @@
 // Rules: SRPT (the message with the fewest bytes left goes first), credit, and at most 64 packets a step.
 ghost use Rattle.std.specs.Prelude.{◌≡◌, ◌+◌, Some, IsSome};
 ghost use Rattle.std.specs.Option.{option_map};
-ghost use Rattle.homa_plain.specs.Choice.{least};
+ghost use Rattle.homa_plain.specs.SentNext.{least};
 ghost use Rattle.homa_plain.specs.Work.{Work};
 ghost use Rattle.homa_plain.specs.SentNext.{pump};
 ghost use Rattle.host_places.specs.Placed.{spot_at};

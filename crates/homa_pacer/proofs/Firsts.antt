@@ -4,7 +4,7 @@ use Rattle.std.specs.Option.{option_map}
 use Rattle.std.specs.List.{AllByRecursion}
 use Rattle.plain_sets.specs.Ordered.{first_of, IsInOrder, SendersDiffer}
 use Rattle.plain_sets.proofs.OrderSame.{ordered-sorted}
-use Rattle.homa_plain.specs.Choice.{least}
+use Rattle.homa_plain.specs.SentNext.{least}
 use Rattle.place_heap.specs.Order as heap
 use Rattle.place_heap.specs.Order.{Item}
 use Rattle.host_heap.proofs.Books.{keys-differ}

@@ -3,7 +3,7 @@
 ghost use Rattle.std.specs.Prelude.{◌≡◌, ◌<◌, ◌↔◌, [], IsNone, IfSome};
 ghost use Rattle.std.specs.Option.{option_map};
 ghost use Rattle.plain_sets.specs.Ordered.{placed};
-ghost use Rattle.homa_plain.specs.Choice.{least};
+ghost use Rattle.homa_plain.specs.SentNext.{least};
 ghost use Rattle.homa_pacer.specs.Pace.{ready_key, without, IsOwnOrder, IsSound};
 
 use crate::Pacer;

@@ -14,8 +14,9 @@ use Rattle.plain_sets.proofs.OrderLaws.{below_self, tied_keys, sorted-ordered, p
 use Rattle.plain_sets.proofs.OrderSame.{here, there, at_head, all_at, none_in, ordered-permuted, ordered-map_same}
 use Rattle.plain_sets.proofs.MapMembers.{same_some}
 use Rattle.plain_sets.proofs.FirstLaws.{firsts-differ, take-differ, firsts-all, sorted-firsts}
-use Rattle.homa_plain.specs.Choice.{Message, sender, choice_key, new_end, Granted, chosen_by, chosen, grants_from, grants, first_due, due, IsBefore}
-use Rattle.homa_plain.specs.Choice.{HasAhead, IsGrant}
+use Rattle.homa_plain.specs.Grants.{Message, sender, choice_key, new_end, Granted, chosen_by, chosen, grants_from, grants, IsBefore}
+use Rattle.homa_plain.specs.Timers.{first_due, due}
+use Rattle.homa_plain.specs.Grants.{HasAhead, IsGrant}
 
 -- a thing that is listed where a test holds
 one_if : {X : Type 0} (b : Bool) (x : X) → b ≡ true → Contains (cond b (x ∷ []) []) x

@@ -7,7 +7,8 @@ use Rattle.plain_sets.specs.Ordered.{ordered, firsts}
 use Rattle.homa_plain.specs.declared.id.HostId.{HostId}
 use Rattle.homa_plain.specs.Incoming as in_part
 use Rattle.homa_plain.specs.Outgoing as out_part
-use Rattle.homa_plain.specs.Choice.{Message, grants, due}
+use Rattle.homa_plain.specs.Grants.{Message, grants}
+use Rattle.homa_plain.specs.Timers.{due}
 use Rattle.homa_plain.specs.Cutoffs.{first_cutoffs, level_of, least_from, bounds, balanced}
 use Rattle.homa_plain.specs.Busy as out_busy
 use Rattle.homa_plain.specs.OutgoingChanges as out_changes

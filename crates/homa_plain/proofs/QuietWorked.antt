@@ -3,7 +3,7 @@ use Rattle.std.proofs.Common.{◌≡◌, refl, true, false}
 use Rattle.plain_sets.specs.Maps.{empty, checked, get, insert, retain, remove, len, keys, values, key_set, insert_all}
 use Rattle.plain_sets.specs.Numbers.{with_range, without_range, within, ranges, first_in, missing}
 use Rattle.plain_sets.specs.Ordered.{ordered, firsts}
-use Rattle.homa_plain.specs.Choice.{due}
+use Rattle.homa_plain.specs.Timers.{due}
 use Rattle.homa_plain.specs.Cutoffs.{level_of, noted}
 use Rattle.homa_plain.specs.Settings.{usual}
 use Rattle.homa_plain.specs.Host.{tuned}

@@ -1,4 +1,4 @@
--- What a packet of its server does to a call's row at its client: UNKNOWN, which `AtServer` sends, and NEED_ACK among them.
+-- What a packet of its server does to a call's row at its client: UNKNOWN, which a server sends by `Unknown`, and NEED_ACK among them.
 use Rattle.std.specs.Prelude.{ℕ, ◌==◌, not, nat_lt, true, if◌then◌else◌, Option, None, Some, List, [], ◌∷◌}
 use Rattle.homa_plain.specs.declared.id.CallId.{CallId}
 use Rattle.homa_plain.specs.declared.packet.Body.{Body}
@@ -68,7 +68,7 @@ abbrev pub request_resent : Moment → ClientRow → Resent → Did ClientRow
 request_resent m r resent = says m (Some (record r { out = resent.part })) (busy_for resent.answer)
 
 -- starts the request over if the server has no record of the call and no byte of the response arrived
--- A rule of this project. In SIGCOMM 2018, "Lost packets" (from memory), such a server asks for the request by RESEND.
+-- A rule of this project.
 abbrev pub started_over : ClientRow → Option Incoming → ClientRow
 started_over r None = record r { out = restart r.out }
 started_over r (Some part) = r

@@ -1,4 +1,4 @@
--- What a packet of its client does to a call's row at its server. It sends UNKNOWN; what that does to the client is in `AtClient`.
+-- What a packet of its client does to a call's row at its server.
 use Rattle.std.specs.Prelude.{ℕ, ◌+◌, ◌==◌, not, ◌||◌, nat_lt, nat_le, if◌then◌else◌, Option, None, Some, List, [], ◌∷◌, length}
 use Rattle.homa_plain.specs.declared.id.CallId.{CallId}
 use Rattle.homa_plain.specs.declared.packet.Body.{Body}
@@ -13,6 +13,7 @@ use Rattle.homa_plain.specs.Entries.{PlainRun, PlainFullRows, PlainFullPages, Pl
 use Rattle.homa_plain.specs.Packets.{Packet}
 use Rattle.homa_plain.specs.Rows.{ServerRow, State, Receiving, Held, Replying, Buried}
 use Rattle.homa_plain.specs.Host.{pages_for}
+use Rattle.homa_plain.specs.Unknown.{without_row, buried_gets}
 use Rattle.homa_plain.specs.Rules.{Moment, Answer, Piece, Tells, Posts, Did, leaves, keeps, says, opening, version_of}
 
 -- the row in another state
@@ -74,11 +75,10 @@ opens s m id piece answer =
 abbrev pub piece_of : ℕ → ℕ → ℕ → ℕ → List ℕ → Piece
 piece_of size offset version service payload = record { size = size; offset = offset; version = version; service = service; payload = payload }
 
--- a packet without a row: DATA opens one, RESEND is answered with UNKNOWN 0, and all others do nothing
+-- a packet without a row: DATA opens one
 abbrev pub unknown_gets : Settings → Moment → CallId → Body → List ℕ → Answer → Did ServerRow
 unknown_gets s m id (body.Data size offset version service ack) payload answer = opens s m id (piece_of size offset version service payload) answer
-unknown_gets s m id (body.Resend from to prio) payload answer = says m None (Posts (body.Unknown 0) ∷ [])
-unknown_gets s m id body payload answer = leaves m None
+unknown_gets s m id body payload answer = without_row m body
 
 -- the request still arrives: DATA brings a piece, RESEND is answered with BUSY, and BUSY starts the timer anew;
 -- RESEND and BUSY clear the count of tries
@@ -111,13 +111,6 @@ replying_gets m (body.Grant offset prio) row response out order = keeps m (touch
 replying_gets m (body.Resend from to prio) row response out order = response_resent m row response order (resend out from to prio)
 replying_gets m (body.Ack more) row response out order = keeps m row
 replying_gets m body row response out order = keeps m (touched m row response out order)
-
--- the call is buried: DATA and RESEND are answered with UNKNOWN 1, which says that the call ran
--- A rule of this project.
-abbrev pub buried_gets : Moment → Body → ServerRow → Did ServerRow
-buried_gets m (body.Data size offset version service ack) row = says m (Some row) (Posts (body.Unknown 1) ∷ [])
-buried_gets m (body.Resend from to prio) row = says m (Some row) (Posts (body.Unknown 1) ∷ [])
-buried_gets m body row = keeps m row
 
 -- a packet arrives for a row in this state
 abbrev pub row_gets : Settings → Moment → CallId → Body → List ℕ → Answer → ServerRow → State → Did ServerRow

@@ -10,7 +10,7 @@ pub mod Kinds
 pub mod Wire
 pub mod Incoming
 pub mod Outgoing
-pub mod Choice
+pub mod Grants
 pub mod Cutoffs
 pub mod PartCodes
 pub mod Calls
@@ -21,6 +21,7 @@ pub mod Rules
 pub mod Busy
 pub mod OutgoingChanges
 pub mod AtClient
+pub mod Unknown
 pub mod AtServer
 pub mod Tombstones
 pub mod Timers

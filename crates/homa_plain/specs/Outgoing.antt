@@ -4,7 +4,7 @@ use Rattle.std.specs.Prelude.{◌≡◌, ◌⊎◌, ◌<◌, ◌≤◌, true, fa
 use Rattle.std.specs.Prelude.{◌∷◌, length}
 use Rattle.plain_sets.specs.Maps.{len}
 use Rattle.plain_sets.specs.Ranges.{Range, range}
-use Rattle.plain_sets.specs.Numbers.{Numbers, with_range, without_range, within, set_of_range, has, IsBelow, ranges}
+use Rattle.plain_sets.specs.Numbers.{Numbers, with_range, without_range, set_of_range, has, IsBelow, ranges}
 
 -- an outgoing message
 pub record Outgoing : Type 0 where

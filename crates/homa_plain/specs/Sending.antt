@@ -8,7 +8,7 @@ use Rattle.homa_plain.specs.declared.packet.Cutoffs.{Cutoffs}
 use Rattle.homa_plain.specs.declared.packet.Body.{Body}
 use Rattle.homa_plain.specs.declared.packet.Body.TheVariants as body
 use Rattle.homa_plain.specs.declared.settings.Settings.{Settings}
-use Rattle.homa_plain.specs.Choice.{Message, seen}
+use Rattle.homa_plain.specs.Grants.{Message, seen}
 use Rattle.homa_plain.specs.Cutoffs.{level_of}
 use Rattle.homa_plain.specs.Incoming.{Incoming, granted_to}
 use Rattle.homa_plain.specs.Outgoing.{Outgoing, next}

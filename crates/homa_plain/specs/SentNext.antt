@@ -2,6 +2,7 @@
 use Rattle.std.specs.Prelude.{ℕ, ◌+◌, ◌-◌, ◌&&◌, ◌||◌, Bool, nat_lt, nat_le, if◌then◌else◌, Option, None, Some, List, [], ◌∷◌, ◌++◌, drop, zero}
 use Rattle.std.specs.Prelude.{suc, length}
 use Rattle.std.specs.List.{flat_map}
+use Rattle.plain_sets.specs.Ordered.{ordered, first_of}
 use Rattle.plain_sets.specs.Maps.{entries, get, insert}
 use Rattle.plain_sets.specs.Ranges.{Range}
 use Rattle.homa_plain.specs.declared.id.CallId.{CallId}
@@ -12,7 +13,6 @@ use Rattle.homa_plain.specs.Rows.{ClientRow, ServerRow, State, Replying}
 use Rattle.homa_plain.specs.Host.{Host, peer_cutoffs, finished_at, with_finished, Sends, packets_in}
 use Rattle.homa_plain.specs.Timers.{Place, OfClient, OfServer}
 use Rattle.homa_plain.specs.declared.packet.Role.TheVariants.{Client, Server}
-use Rattle.homa_plain.specs.Choice.{least}
 use Rattle.homa_plain.specs.Sending.{Content, request_content, response_content, client_sends, state_sends}
 use Rattle.homa_plain.specs.Work.{Work, now_of, tells, packet_from}
 use Rattle.homa_plain.specs.FiveAcks.{oldest}
@@ -92,6 +92,10 @@ leaves_from s (OfServer id) w = server_leaves s id (get w.host.servers id) w
 abbrev pub first_leaves : Settings → Option Leaving → Work → Option Work
 first_leaves s None w = None
 first_leaves s (Some l) w = leaves_from s l.place w
+
+-- the thing that comes first by a key
+abbrev pub least : {X : Type 0} → (X → ℕ × ℕ) → List X → Option X
+least key xs = first_of (ordered key xs)
 
 -- the first message that may be sent sends its next piece;
 -- none if there is no such message, or if the piece has more bytes than the credit

@@ -13,7 +13,8 @@ use Rattle.homa_plain.specs.declared.settings.Settings.{Settings}
 use Rattle.homa_plain.specs.declared.fault.StartFault.{StartFault}
 use Rattle.homa_plain.specs.declared.fault.StartFault.TheVariants.{Empty, TooLong, SelfCall, CallsFull, SeqSpent}
 use Rattle.homa_plain.specs.Calls.{is_host}
-use Rattle.homa_plain.specs.Choice.{Granted, grants, due}
+use Rattle.homa_plain.specs.Grants.{Granted, grants}
+use Rattle.homa_plain.specs.Timers.{due}
 use Rattle.homa_plain.specs.Outgoing as outgoing
 use Rattle.homa_plain.specs.Entries.{PlainCall, PlainJunk, PlainStale, PlainRun}
 use Rattle.homa_plain.specs.Packets.{Packet, sender, acks}

@@ -1,6 +1,8 @@
 -- When the timer of a row is due, and what the row does then.
-use Rattle.std.specs.Prelude.{ℕ, ◌+◌, ◌&&◌, ◌||◌, Bool, false, nat_lt, is_none, if◌then◌else◌, Option, None, Some, List, [], ◌∷◌, ◌++◌}
+use Rattle.std.specs.Prelude.{ℕ, ◌+◌, ◌&&◌, ◌||◌, Bool, false, nat_lt, nat_le, is_none, if◌then◌else◌, Option, None, Some, List, [], ◌∷◌, ◌++◌}
+use Rattle.std.specs.Prelude.{take, filter}
 use Rattle.std.specs.List.{flat_map}
+use Rattle.plain_sets.specs.Ordered.{ordered}
 use Rattle.plain_sets.specs.Maps.{entries}
 use Rattle.plain_sets.specs.Ranges.{Range, range}
 use Rattle.homa_plain.specs.declared.id.CallId.{CallId}
@@ -121,3 +123,18 @@ abbrev pub timers : Settings → Host → List Timer
 timers s h =
     flat_map (λ (e : CallId × ClientRow). timer (OfClient e.0) e.1.order (client_deadline s e.1)) (entries h.clients)
     ++ flat_map (λ (e : CallId × ServerRow). timer (OfServer e.0) e.1.order (server_deadline s e.1)) (entries h.servers)
+
+-- ---- rows that are due
+
+-- the things whose deadline has come, by deadline and then by order, at most n
+abbrev pub first_due : {X : Type 0} → (X → ℕ × ℕ) → ℕ → ℕ → List X → List X
+first_due key n now xs = take n (ordered key (filter (λ x. nat_le (key x).0 now) xs))
+
+-- how many rows may act in a turn
+abbrev pub most_acts : ℕ
+most_acts = 32
+
+-- the rows that act in a turn: the first 32 that are due; the key of a row is its deadline and its order
+-- A rule of this project: the bound keeps a step short.
+unfoldable pub due : {X : Type 0} → (X → ℕ × ℕ) → ℕ → List X → List X
+due key now xs = first_due key most_acts now xs

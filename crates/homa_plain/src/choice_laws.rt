@@ -4,7 +4,8 @@ ghost use Rattle.std.specs.Prelude.{slice_index, Contains, IsPermutation};
 ghost use Rattle.std.specs.List.{AllByRecursion, list_any};
 ghost use Rattle.plain_sets.specs.Ordered.{KeysDiffer, SendersDiffer};
 ghost use Rattle.homa_plain.specs.declared.packet.Cutoffs.{Cutoffs};
-ghost use Rattle.homa_plain.specs.Choice.{Message, sender, choice_key, new_end, Granted, chosen_by, chosen, grants, due, IsBefore, HasAhead, IsGrant};
+ghost use Rattle.homa_plain.specs.Grants.{Message, sender, choice_key, new_end, Granted, chosen_by, chosen, grants, IsBefore, HasAhead, IsGrant};
+ghost use Rattle.homa_plain.specs.Timers.{due};
 ghost use Rattle.homa_plain.specs.Cutoffs.{noted, level_of, has_share, balanced, IsLeastNumber, IsLevel};
 
 use crate::limits::LONGEST_MESSAGE;

@@ -10,7 +10,7 @@ use Rattle.std.proofs.lemmas.Bool.Decides.{nat_tests}
 use Rattle.plain_sets.specs.Ordered.{is_below, first_of, IsInOrder, SendersDiffer}
 use Rattle.plain_sets.proofs.OrderLaws.{all_weaker}
 use Rattle.plain_sets.proofs.OrderSame.{ordered-sorted, ordered-filter}
-use Rattle.homa_plain.specs.Choice.{due, most_acts}
+use Rattle.homa_plain.specs.Timers.{due, most_acts}
 use Rattle.place_heap.specs.Order as heap
 use Rattle.place_heap.specs.Order.{Item}
 use Rattle.host_heap.proofs.Books.{keys-differ}

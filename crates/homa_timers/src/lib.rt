@@ -12,7 +12,7 @@ ghost use Rattle.std.specs.Prelude.{◌≡◌, ◌+◌, ◌<◌, ◌↔◌, [], 
 ghost use Rattle.std.specs.Option.{option_map};
 ghost use Rattle.place_heap.specs.Held.{list_of};
 ghost use Rattle.plain_sets.specs.Ordered.{placed, first_of};
-ghost use Rattle.homa_plain.specs.Choice.{due};
+ghost use Rattle.homa_plain.specs.Timers.{due};
 ghost use Rattle.homa_plain.specs.Settings.{IsValid};
 ghost use Rattle.homa_timers.specs.Armed.{timer_key, without, IsOwnOrder, NoneDue, IsSound, item_of};
 

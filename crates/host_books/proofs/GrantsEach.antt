@@ -5,7 +5,7 @@ use Rattle.std.specs.List.{AllByRecursion, Contains}
 use Rattle.plain_sets.specs.Ordered.{SendersDiffer}
 use Rattle.plain_sets.proofs.OrderFirst.{all_from}
 use Rattle.homa_plain.specs.declared.settings.Settings.{Settings}
-use Rattle.homa_plain.specs.Choice.{Message, new_end, grants_from, chosen, Granted, sender, choice_key}
+use Rattle.homa_plain.specs.Grants.{Message, new_end, grants_from, chosen, Granted, sender, choice_key}
 use Rattle.homa_plain.specs.Sending.{Arriving, arrivals}
 use Rattle.homa_plain.specs.Work.{Work}
 use Rattle.homa_plain.specs.Steps.{grants_at, all_granted, gives_grants}

@@ -13,7 +13,7 @@ use Rattle.plain_sets.proofs.OrderFirst.{first-ordered, all_from}
 use Rattle.plain_sets.proofs.MapMembers.{same_some}
 use Rattle.homa_plain.specs.declared.id.CallId.{CallId}
 use Rattle.homa_plain.specs.declared.settings.Settings.{Settings}
-use Rattle.homa_plain.specs.Choice.{least}
+use Rattle.homa_plain.specs.SentNext.{least}
 use Rattle.homa_plain.specs.Outgoing.{Outgoing, has_waiting, left, next_range, IsSound, IsFront, IsIdle}
 use Rattle.homa_plain.specs.Rows.{ClientRow, ServerRow, State, Receiving, Held, Replying, Buried}
 use Rattle.homa_plain.specs.Host.{Host, packets_in, peer_cutoffs}

@@ -1,7 +1,7 @@
 -- How a step of a host ends, message by message.
 use Rattle.std.specs.Prelude.{ℕ, nat_lt, if◌then◌else◌, List, [], ◌∷◌, length}
 use Rattle.homa_plain.specs.declared.settings.Settings.{Settings}
-use Rattle.homa_plain.specs.Choice.{new_end}
+use Rattle.homa_plain.specs.Grants.{new_end}
 use Rattle.homa_plain.specs.Sending.{Arriving}
 use Rattle.homa_plain.specs.Work.{Work}
 use Rattle.homa_plain.specs.Steps.{grants_at}

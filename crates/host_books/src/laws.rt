@@ -14,7 +14,7 @@ ghost use Rattle.homa_plain.specs.Rows.{RowsOf};
 ghost use Rattle.homa_plain.specs.Host.{Host, free_beside, packets_in};
 ghost use Rattle.homa_plain.specs.Timers.{Place};
 ghost use Rattle.plain_sets.specs.Ordered.{SendersDiffer, ordered, first_of};
-ghost use Rattle.homa_plain.specs.Choice.{chosen, sender};
+ghost use Rattle.homa_plain.specs.Grants.{chosen, sender};
 ghost use Rattle.homa_plain.specs.Sending.{Arriving, arrivals};
 ghost use Rattle.homa_plain.specs.SentNext.{Leaving, departures};
 ghost use Rattle.homa_plain.specs.Work.{Work};

@@ -10,7 +10,8 @@ use Rattle.homa_plain.specs.declared.packet.Body.{Body}
 use Rattle.homa_plain.specs.declared.packet.Body.TheVariants as body
 use Rattle.homa_plain.specs.declared.settings.Settings.{Settings}
 use Rattle.homa_plain.specs.Calls.{is_call}
-use Rattle.homa_plain.specs.Choice.{Granted, grants, least}
+use Rattle.homa_plain.specs.Grants.{Granted, grants}
+use Rattle.homa_plain.specs.SentNext.{least}
 use Rattle.homa_plain.specs.Outgoing.{next_range}
 use Rattle.homa_plain.specs.Rows.{ClientRow, ServerRow, State, Receiving, Held, Replying, Buried, set_row}
 use Rattle.homa_plain.specs.Host.{Host, peer_cutoffs, packets_in}

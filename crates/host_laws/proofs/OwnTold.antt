@@ -26,7 +26,8 @@ use Rattle.homa_plain.specs.AtServer.{piece_comes, runs, opens, piece_of, unknow
 use Rattle.homa_plain.specs.AtServer.{row_gets, server_gets}
 use Rattle.homa_plain.specs.Tombstones.{state_acked, server_acked}
 use Rattle.homa_plain.specs.Timers.{Place, OfClient, OfServer, resend_of, wanted, client_acts, server_acts, state_acts}
-use Rattle.homa_plain.specs.Choice.{Granted, grants, least}
+use Rattle.homa_plain.specs.Grants.{Granted, grants}
+use Rattle.homa_plain.specs.SentNext.{least}
 use Rattle.homa_plain.specs.Sending.{Arriving, arrivals, response_content}
 use Rattle.homa_plain.specs.SentNext.{Leaving, leaving_key, departures}
 use Rattle.step_laws.proofs.StepEnd.{left}

@@ -7,8 +7,9 @@ use Rattle.std.proofs.lemmas.List.{take-map}
 use Rattle.plain_sets.specs.Ordered.{ordered, firsts, first_of, KeysDiffer, DiffersFrom}
 use Rattle.plain_sets.proofs.OrderLaws.{permutation-ordered}
 use Rattle.plain_sets.proofs.OrderSame.{ordered-permuted, ordered-map_same, ordered-filter}
-use Rattle.homa_plain.specs.Choice.{due, first_due, chosen_by, choice_key}
-use Rattle.homa_plain.specs.Choice as choice
+use Rattle.homa_plain.specs.Timers.{due, first_due}
+use Rattle.homa_plain.specs.Grants.{chosen_by, choice_key}
+use Rattle.homa_plain.specs.Grants as choice
 use Rattle.homa_plain.specs.Timers.{Timer, timer_key, timers}
 use Rattle.homa_plain.specs.Sending.{Arriving, arrivals}
 use Rattle.homa_plain.proofs.ChoiceLaws.{chosen-map}

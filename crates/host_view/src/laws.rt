@@ -2,7 +2,8 @@
 ghost use Rattle.std.specs.Prelude.{◌≡◌, ◌≤◌, ℕ, [], Some, None, List, map, Contains};
 ghost use Rattle.std.specs.Option.{option_map};
 ghost use Rattle.plain_sets.specs.Ordered.{ordered, first_of};
-ghost use Rattle.homa_plain.specs.Choice.{due, chosen_by, chosen};
+ghost use Rattle.homa_plain.specs.Timers.{due};
+ghost use Rattle.homa_plain.specs.Grants.{chosen_by, chosen};
 ghost use Rattle.homa_plain.specs.Timers.{timer_key, timers};
 ghost use Rattle.homa_plain.specs.SentNext.{Leaving, leaving_key, departures};
 ghost use Rattle.homa_plain.specs.Sending.{arrivals};

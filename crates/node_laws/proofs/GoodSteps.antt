@@ -21,8 +21,8 @@ use Rattle.homa_plain.specs.Calls.{is_call, is_host, call_cmp}
 use Rattle.homa_plain.specs.Settings.{IsValid}
 use Rattle.homa_plain.specs.Wire.{IsCall, FitsKind}
 use Rattle.homa_plain.specs.Cutoffs.{levels}
-use Rattle.homa_plain.specs.Choice.{Granted, Message, new_end, seen, choice_key, chosen}
-use Rattle.homa_plain.specs.Choice as choice
+use Rattle.homa_plain.specs.Grants.{Granted, Message, new_end, seen, choice_key, chosen}
+use Rattle.homa_plain.specs.Grants as choice
 use Rattle.homa_plain.specs.Entries.{PlainFullRows, PlainFullPages}
 use Rattle.homa_plain.specs.Incoming.{Incoming}
 use Rattle.homa_plain.specs.Incoming as incoming

@@ -13,7 +13,7 @@ use Rattle.homa_plain.specs.declared.settings.Settings.{Settings}
 use Rattle.homa_plain.specs.Incoming.{Incoming, granted_to}
 use Rattle.homa_plain.specs.Packets.{Packet}
 use Rattle.homa_plain.specs.Host.{Host, Told, Sends, packets_in}
-use Rattle.homa_plain.specs.Choice.{least}
+use Rattle.homa_plain.specs.SentNext.{least}
 use Rattle.homa_plain.specs.Timers.{OfClient}
 use Rattle.homa_plain.specs.SentNext.{leaving_key}
 use Rattle.homa_plain.specs.Work.{Work}

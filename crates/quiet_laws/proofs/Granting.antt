@@ -7,14 +7,14 @@ use Rattle.plain_sets.specs.Ordered.{ordered, firsts}
 use Rattle.homa_plain.specs.declared.packet.Role.TheVariants.{Client, Server}
 use Rattle.homa_plain.specs.declared.packet.Body.TheVariants as body
 use Rattle.homa_plain.specs.declared.settings.Settings.{Settings}
-use Rattle.homa_plain.specs.Choice.{Granted, grants, grants_from, new_end}
+use Rattle.homa_plain.specs.Grants.{Granted, grants, grants_from, new_end}
 use Rattle.homa_plain.specs.Incoming.{Incoming, granted_to}
 use Rattle.homa_plain.specs.Packets.{Packet}
 use Rattle.homa_plain.specs.Outgoing.{Outgoing}
 use Rattle.homa_plain.specs.Rows.{ServerRow, Receiving, Replying}
 use Rattle.homa_plain.specs.Host.{Told, Sends}
 use Rattle.homa_plain.specs.Timers.{OfClient, OfServer}
-use Rattle.homa_plain.specs.Choice as choice
+use Rattle.homa_plain.specs.Grants as choice
 use Rattle.homa_plain.specs.Sending.{Arriving}
 use Rattle.homa_plain.specs.Work.{Work, packet_from, bare}
 use Rattle.homa_plain.specs.Steps.{gives_grants, all_granted}

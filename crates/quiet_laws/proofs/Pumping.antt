@@ -11,7 +11,7 @@ use Rattle.plain_sets.specs.Ranges.{Range, range}
 use Rattle.homa_plain.specs.declared.packet.Role.TheVariants.{Client}
 use Rattle.homa_plain.specs.declared.settings.Settings.{Settings}
 use Rattle.homa_plain.specs.Packets.{Packet}
-use Rattle.homa_plain.specs.Choice.{least}
+use Rattle.homa_plain.specs.SentNext.{least}
 use Rattle.homa_plain.specs.Outgoing.{next}
 use Rattle.homa_plain.specs.Rows.{ClientRow}
 use Rattle.homa_plain.specs.Host.{Told, Sends, peer_cutoffs}

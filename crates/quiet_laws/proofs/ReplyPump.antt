@@ -9,7 +9,7 @@ use Rattle.plain_sets.specs.Ranges.{Range, range}
 use Rattle.homa_plain.specs.declared.packet.Role.TheVariants.{Server}
 use Rattle.homa_plain.specs.declared.settings.Settings.{Settings}
 use Rattle.homa_plain.specs.Packets.{Packet}
-use Rattle.homa_plain.specs.Choice.{least}
+use Rattle.homa_plain.specs.SentNext.{least}
 use Rattle.homa_plain.specs.Outgoing.{Outgoing}
 use Rattle.homa_plain.specs.Rows.{ServerRow, Replying}
 use Rattle.homa_plain.specs.Host.{Told, Sends, peer_cutoffs}

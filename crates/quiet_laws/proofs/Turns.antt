@@ -6,7 +6,7 @@ use Rattle.plain_sets.specs.Maps as maps
 use Rattle.plain_sets.specs.Maps.{empty, insert, get, entries}
 use Rattle.plain_sets.specs.Ordered.{ordered}
 use Rattle.homa_plain.specs.declared.settings.Settings.{Settings}
-use Rattle.homa_plain.specs.Choice.{due, most_acts}
+use Rattle.homa_plain.specs.Timers.{due, most_acts}
 use Rattle.homa_plain.specs.Incoming.{Incoming}
 use Rattle.homa_plain.specs.Outgoing.{Outgoing}
 use Rattle.homa_plain.specs.Rows.{ClientRow, Receiving, Replying}

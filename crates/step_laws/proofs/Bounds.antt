@@ -11,7 +11,7 @@ use Rattle.homa_plain.specs.declared.packet.Role.TheVariants.{Client, Server}
 use Rattle.homa_plain.specs.declared.packet.Body.{Body}
 use Rattle.homa_plain.specs.declared.packet.Body.TheVariants as body
 use Rattle.homa_plain.specs.declared.settings.Settings.{Settings}
-use Rattle.homa_plain.specs.Choice.{due}
+use Rattle.homa_plain.specs.Timers.{due}
 use Rattle.homa_plain.specs.Incoming.{Incoming, with_bytes, leaves_too_many_gaps, is_whole, message, first_gap}
 use Rattle.homa_plain.specs.Incoming as incoming
 use Rattle.homa_plain.specs.Outgoing.{Outgoing}

@@ -13,7 +13,9 @@ use Rattle.homa_plain.specs.declared.packet.Role.{Role}
 use Rattle.homa_plain.specs.declared.packet.Role.TheVariants.{Client, Server}
 use Rattle.homa_plain.specs.declared.packet.Body.TheVariants as body
 use Rattle.homa_plain.specs.declared.settings.Settings.{Settings}
-use Rattle.homa_plain.specs.Choice.{Granted, grants, least, due}
+use Rattle.homa_plain.specs.Grants.{Granted, grants}
+use Rattle.homa_plain.specs.SentNext.{least}
+use Rattle.homa_plain.specs.Timers.{due}
 use Rattle.homa_plain.specs.Incoming.{Incoming}
 use Rattle.homa_plain.specs.Outgoing.{next_range}
 use Rattle.homa_plain.specs.Packets.{Packet, sender, acks}

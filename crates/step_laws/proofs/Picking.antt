@@ -15,7 +15,7 @@ use Rattle.plain_sets.proofs.OrderFirst.{all_from}
 use Rattle.plain_sets.proofs.OrderSame.{all_at, filter-all, ordered-filter}
 use Rattle.homa_plain.specs.declared.id.CallId.{CallId}
 use Rattle.homa_plain.specs.declared.settings.Settings.{Settings}
-use Rattle.homa_plain.specs.Choice.{due, most_acts}
+use Rattle.homa_plain.specs.Timers.{due, most_acts}
 use Rattle.homa_plain.specs.Outgoing.{has_waiting}
 use Rattle.homa_plain.specs.Calls.{is_call}
 use Rattle.homa_plain.specs.Calls.{call_cmp}

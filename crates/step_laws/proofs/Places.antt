@@ -11,7 +11,7 @@ use Rattle.plain_sets.proofs.OrderFirst.{all_from}
 use Rattle.plain_sets.proofs.MapMembers.{get-entry}
 use Rattle.homa_plain.specs.declared.id.CallId.{CallId}
 use Rattle.homa_plain.specs.declared.settings.Settings.{Settings}
-use Rattle.homa_plain.specs.Choice.{choice_key}
+use Rattle.homa_plain.specs.Grants.{choice_key}
 use Rattle.homa_plain.specs.Incoming.{Incoming}
 use Rattle.homa_plain.specs.Outgoing.{has_waiting}
 use Rattle.homa_plain.specs.Rows.{ClientRow, ServerRow, State, Receiving, Replying, RowsOf}

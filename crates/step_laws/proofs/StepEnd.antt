@@ -7,7 +7,8 @@ use Rattle.homa_plain.specs.declared.id.CallId.{CallId}
 use Rattle.homa_plain.specs.declared.packet.Body.{Body}
 use Rattle.homa_plain.specs.declared.packet.Body.TheVariants as body
 use Rattle.homa_plain.specs.declared.settings.Settings.{Settings}
-use Rattle.homa_plain.specs.Choice.{Granted, grants, least}
+use Rattle.homa_plain.specs.Grants.{Granted, grants}
+use Rattle.homa_plain.specs.SentNext.{least}
 use Rattle.homa_plain.specs.Outgoing.{next_range}
 use Rattle.homa_plain.specs.Rows.{ClientRow, ServerRow, State, Replying}
 use Rattle.homa_plain.specs.Host.{peer_cutoffs, packets_in}

@@ -5,7 +5,7 @@ use Rattle.plain_sets.specs.Maps.{get}
 use Rattle.plain_sets.specs.Ordered.{first_of}
 use Rattle.homa_plain.specs.declared.id.CallId.{CallId}
 use Rattle.homa_plain.specs.declared.settings.Settings.{Settings}
-use Rattle.homa_plain.specs.Choice.{due}
+use Rattle.homa_plain.specs.Timers.{due}
 use Rattle.homa_plain.specs.Entries.{PlainRun}
 use Rattle.homa_plain.specs.Calls.{is_call}
 use Rattle.homa_plain.specs.Incoming.{Incoming}

@@ -11,7 +11,9 @@ use Rattle.plain_sets.proofs.OrderLaws.{ordered-all}
 use Rattle.plain_sets.proofs.OrderSame.{all_at, there}
 use Rattle.homa_plain.specs.declared.id.CallId.{CallId}
 use Rattle.homa_plain.specs.declared.settings.Settings.{Settings}
-use Rattle.homa_plain.specs.Choice.{Message, Granted, seen, sender, new_end, chosen, grants, grants_from, least, due, choice_key}
+use Rattle.homa_plain.specs.Grants.{Message, Granted, seen, sender, new_end, chosen, grants, grants_from, choice_key}
+use Rattle.homa_plain.specs.SentNext.{least}
+use Rattle.homa_plain.specs.Timers.{due}
 use Rattle.homa_plain.specs.Incoming.{Incoming}
 use Rattle.homa_plain.specs.Outgoing.{Outgoing, has_waiting}
 use Rattle.homa_plain.specs.Rows.{ClientRow, ServerRow, State, Receiving, Replying, RowsOf}

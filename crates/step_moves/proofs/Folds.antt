@@ -10,7 +10,9 @@ use Rattle.homa_plain.specs.declared.id.CallId.{CallId}
 use Rattle.homa_plain.specs.declared.settings.Settings.{Settings}
 use Rattle.homa_plain.specs.declared.packet.Body.TheVariants as body
 use Rattle.homa_plain.specs.Calls.{is_call}
-use Rattle.homa_plain.specs.Choice.{Message, Granted, seen, sender, new_end, due, least, most_acts}
+use Rattle.homa_plain.specs.Grants.{Message, Granted, seen, sender, new_end}
+use Rattle.homa_plain.specs.Timers.{due, most_acts}
+use Rattle.homa_plain.specs.SentNext.{least}
 use Rattle.homa_plain.specs.Incoming.{Incoming}
 use Rattle.homa_plain.specs.Outgoing.{Outgoing, next_range}
 use Rattle.homa_plain.specs.Rows.{ClientRow, ServerRow, State, Receiving, Held, Replying, Buried}

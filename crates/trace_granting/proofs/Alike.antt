@@ -5,8 +5,8 @@ use Rattle.std.specs.List.{AllByRecursion}
 use Rattle.plain_sets.specs.Ordered.{is_below, placed, ordered, firsts, not_of}
 use Rattle.plain_sets.proofs.FirstLaws.{firsts-all}
 use Rattle.plain_sets.proofs.OrderLaws.{ordered-all}
-use Rattle.homa_plain.specs.Choice.{Message, choice_key, chosen_by, chosen}
-use Rattle.homa_plain.specs.Choice as choice
+use Rattle.homa_plain.specs.Grants.{Message, choice_key, chosen_by, chosen}
+use Rattle.homa_plain.specs.Grants as choice
 
 module _ {X : Type 0} (f g : X → ℕ × ℕ) where
   -- two keys tell alike which of two comes first

@@ -16,8 +16,8 @@ use Rattle.homa_plain.specs.declared.id.HostId.{HostId}
 use Rattle.homa_plain.specs.declared.packet.Role.{Role}
 use Rattle.homa_plain.specs.declared.packet.Role.TheVariants.{Client, Server}
 use Rattle.homa_plain.specs.Calls.{is_host}
-use Rattle.homa_plain.specs.Choice.{Message, Granted, seen, choice_key, new_end, chosen, grants, IsGrant}
-use Rattle.homa_plain.specs.Choice as choice
+use Rattle.homa_plain.specs.Grants.{Message, Granted, seen, choice_key, new_end, chosen, grants, IsGrant}
+use Rattle.homa_plain.specs.Grants as choice
 use Rattle.homa_plain.specs.Incoming.{Incoming}
 use Rattle.trace_rules.specs.Parts.{Part, Parts, is_message}
 use Rattle.trace_rules.specs.Parts as parts

@@ -7,7 +7,7 @@ use Rattle.homa_plain.specs.declared.id.HostId.{HostId}
 use Rattle.homa_plain.specs.declared.packet.Body.TheVariants as body
 use Rattle.homa_plain.specs.declared.settings.Settings.{Settings}
 use Rattle.homa_plain.specs.Calls.{is_call}
-use Rattle.homa_plain.specs.Choice.{Message, Granted}
+use Rattle.homa_plain.specs.Grants.{Message, Granted}
 use Rattle.homa_plain.specs.Incoming.{Incoming, granted_to}
 use Rattle.homa_plain.specs.Packets.{Packet, send_line, sender, receiver}
 use Rattle.trace_rules.specs.Parts.{Part, raised}

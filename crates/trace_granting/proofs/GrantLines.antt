@@ -9,7 +9,7 @@ use Rattle.homa_plain.specs.declared.packet.Role.TheVariants.{Client, Server}
 use Rattle.homa_plain.specs.declared.packet.Body.TheVariants as body
 use Rattle.homa_plain.specs.declared.settings.Settings.{Settings}
 use Rattle.homa_plain.specs.Calls.{is_host, is_call}
-use Rattle.homa_plain.specs.Choice.{Message, Granted, grants}
+use Rattle.homa_plain.specs.Grants.{Message, Granted, grants}
 use Rattle.homa_plain.specs.Packets.{Packet, send_line, sender, receiver}
 use Rattle.trace_rules.specs.Parts.{Part, is_message, raised}
 use Rattle.homa_plain.specs.Host.{Host}

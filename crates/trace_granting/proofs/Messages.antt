@@ -12,7 +12,7 @@ use Rattle.homa_plain.specs.declared.id.HostId.{HostId}
 use Rattle.homa_plain.specs.declared.packet.Role.{Role}
 use Rattle.homa_plain.specs.declared.packet.Role.TheVariants.{Client, Server}
 use Rattle.homa_plain.specs.Calls.{is_host}
-use Rattle.homa_plain.specs.Choice.{Message, seen}
+use Rattle.homa_plain.specs.Grants.{Message, seen}
 use Rattle.trace_rules.specs.Parts.{Part, is_message}
 use Rattle.homa_plain.specs.Rows.{ClientRow, ServerRow, Receiving}
 use Rattle.homa_plain.specs.Host.{Host}

@@ -7,7 +7,7 @@ use Rattle.plain_sets.proofs.KeySets.{len-key_set}
 use Rattle.homa_plain.specs.declared.id.CallId.{CallId}
 use Rattle.homa_plain.specs.declared.id.HostId.{HostId}
 use Rattle.homa_plain.specs.declared.settings.Settings.{Settings}
-use Rattle.homa_plain.specs.Choice.{Message, seen as message_of}
+use Rattle.homa_plain.specs.Grants.{Message, seen as message_of}
 use Rattle.homa_plain.specs.Incoming.{Incoming}
 use Rattle.trace_rules.specs.Parts.{Part, is_message, is_whole}
 use Rattle.homa_plain.specs.Rows.{ClientRow, ServerRow, State, Receiving, Held, Replying, Buried}

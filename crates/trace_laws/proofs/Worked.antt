@@ -13,7 +13,7 @@ use Rattle.homa_plain.specs.declared.event.Event.TheVariants as event
 use Rattle.homa_plain.specs.declared.fault.LineFault.TheVariants.{World}
 use Rattle.homa_plain.specs.declared.fault.WorldFault.TheVariants.{NoSuchPacket}
 use Rattle.homa_plain.specs.Settings.{usual}
-use Rattle.homa_plain.specs.Choice.{due}
+use Rattle.homa_plain.specs.Timers.{due}
 use Rattle.homa_plain.specs.Cutoffs.{level_of, noted, least_from, bounds}
 use Rattle.homa_plain.specs.Entries.{PlainEntry, PlainSettings, PlainCall, PlainRefused}
 use Rattle.homa_plain.specs.Script.{opening, opening_from, steps_from, phrase_in, bytes_of_word, most_bytes}

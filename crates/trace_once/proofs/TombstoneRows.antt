@@ -8,7 +8,7 @@ use lib.Utf8.{encode}
 use Rattle.plain_sets.specs.Maps.{empty, checked, get, insert, retain, remove, len, keys, values, key_set, insert_all}
 use Rattle.plain_sets.specs.Numbers.{with_range, without_range, within, ranges, first_in, missing}
 use Rattle.plain_sets.specs.Ordered.{ordered, firsts}
-use Rattle.homa_plain.specs.Choice.{due}
+use Rattle.homa_plain.specs.Timers.{due}
 use Rattle.homa_plain.specs.Cutoffs.{level_of, noted, least_from, bounds}
 use Rattle.homa_plain.specs.Bytes.{number_at, two_at, times}
 use Rattle.homa_plain.specs.Wire.{packet_in, packet_at, packet_of, body_at, tick_at, data_at, ack_at, grant_at, resend_at, cutoffs_at, unknown_at}

@@ -17,7 +17,7 @@ use Rattle.homa_plain.specs.declared.packet.Role.TheVariants.{Client, Server}
 use Rattle.homa_plain.specs.declared.packet.Body.TheVariants as body
 use Rattle.homa_plain.specs.declared.settings.Settings.{Settings}
 use Rattle.homa_plain.specs.Calls.{is_host, is_call}
-use Rattle.homa_plain.specs.Choice.{seen, new_end}
+use Rattle.homa_plain.specs.Grants.{seen, new_end}
 use Rattle.homa_plain.specs.Entries.{PlainEntry, PlainDrop, PlainFail, PlainDone}
 use Rattle.homa_plain.specs.Incoming.{Incoming, granted_to}
 use Rattle.homa_plain.specs.Outgoing.{Outgoing, next, next_range}

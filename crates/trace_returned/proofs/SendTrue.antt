@@ -10,7 +10,7 @@ use Rattle.homa_plain.specs.declared.id.CallId.{CallId}
 use Rattle.homa_plain.specs.declared.id.HostId.{HostId}
 use Rattle.homa_plain.specs.declared.packet.Body.TheVariants as body
 use Rattle.homa_plain.specs.declared.settings.Settings.{Settings}
-use Rattle.homa_plain.specs.Choice.{seen, new_end}
+use Rattle.homa_plain.specs.Grants.{seen, new_end}
 use Rattle.homa_plain.specs.Incoming.{Incoming, granted_to}
 use Rattle.homa_plain.specs.Outgoing.{Outgoing, next, next_range}
 use Rattle.homa_plain.specs.Outgoing as outgoing

@@ -1,4 +1,5 @@
--- What every trace obeys: grants go to the messages that are chosen, and never beyond the window.
+-- What every trace obeys: grants go to the messages that are chosen, and never beyond the window. The choice itself is in
+-- `homa_plain/specs/Grants`.
 use Rattle.std.specs.Prelude.{◌≡◌, ℕ, ◌+◌, ◌≤◌, ◌&&◌, true, Option, None, Some, List, ◌++◌, map, filter, Contains}
 use Rattle.plain_sets.specs.Maps.{entries, get, len}
 use Rattle.homa_plain.specs.declared.id.CallId.{CallId}
@@ -8,7 +9,7 @@ use Rattle.homa_plain.specs.declared.packet.Role.TheVariants.{Client, Server}
 use Rattle.homa_plain.specs.declared.packet.Body.{Body}
 use Rattle.homa_plain.specs.declared.packet.Body.TheVariants as body
 use Rattle.homa_plain.specs.Entries.{PlainEntry, PlainSend}
-use Rattle.homa_plain.specs.Choice.{Message, Granted, grants}
+use Rattle.homa_plain.specs.Grants.{Message, Granted, grants}
 use Rattle.homa_plain.specs.Calls.{is_host}
 use Rattle.trace_rules.specs.Parts.{Part, Parts, is_message}
 use Rattle.trace_rules.specs.View.{Progress, View}

@@ -1,4 +1,4 @@
-use Rattle.homa_plain.specs.Choice.{sender, choice_key}
+use Rattle.homa_plain.specs.Grants.{sender, choice_key}
 use Rattle.check_laws.proofs.Entering.{chosen-more}
 use Rattle.check_laws.proofs.choice_by_entering.Goals as goal
 

@@ -3,7 +3,7 @@ use Rattle.std.specs.Option.{option_map}
 use Rattle.place_heap.specs.Order as heap
 use Rattle.place_heap.specs.Order.{Item}
 use Rattle.place_heap.specs.Held.{list_of}
-use Rattle.homa_plain.specs.Choice.{least}
+use Rattle.homa_plain.specs.SentNext.{least}
 use Rattle.homa_pacer.specs.Pace.{Pace, ready_key}
 use Rattle.homa_pacer.proofs.Firsts.{least-first, none-first, within-first}
 use Rattle.homa_pacer.proofs.Pacer.pick.Goals as goal

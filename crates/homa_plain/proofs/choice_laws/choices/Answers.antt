@@ -1,4 +1,4 @@
-use Rattle.homa_plain.specs.Choice.{sender, choice_key}
+use Rattle.homa_plain.specs.Grants.{sender, choice_key}
 use Rattle.homa_plain.proofs.ChoiceLaws.{few-chosen, differ-chosen, chosen-contains, left_out, chosen-permuted, chosen-map}
 use Rattle.homa_plain.proofs.choice_laws.choices.Goals as goal
 

@@ -3,7 +3,7 @@ use Rattle.std.specs.Option.{option_map}
 use Rattle.plain_sets.specs.Ordered.{first_of}
 use Rattle.place_heap.specs.Order as heap
 use Rattle.place_heap.specs.Held.{list_of}
-use Rattle.homa_plain.specs.Choice.{due}
+use Rattle.homa_plain.specs.Timers.{due}
 use Rattle.homa_timers.specs.Armed.{Armed, timer_key, NoneDue}
 use Rattle.homa_timers.proofs.Firsts.{due_slot, due-first, due-none, due-within}
 use Rattle.homa_timers.proofs.Timers.due.Goals as goal

@@ -1,7 +1,7 @@
 use Rattle.std.proofs.Common.{◌≡◌, ◌+◌, ◌-◌, sym, subst, ◌∙◌, refl, arith}
 use Rattle.std.specs.Option.{option_map}
 use Rattle.plain_sets.specs.Ordered.{first_of}
-use Rattle.homa_plain.specs.Choice.{due}
+use Rattle.homa_plain.specs.Timers.{due}
 use Rattle.homa_timers.specs.Armed as armed
 use Rattle.homa_host.proofs.Turning.{IsTurning, turning_on, none_due, turned_early, turned}
 use Rattle.homa_host.proofs.parts.HostParts.act_all.Goals as goal

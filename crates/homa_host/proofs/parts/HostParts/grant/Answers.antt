@@ -5,7 +5,7 @@ use Rattle.std.proofs.lemmas.List.{length-append}
 use Rattle.std.proofs.lemmas.Bool.{lt-ltb}
 use Rattle.homa_plain.specs.declared.packet.Body.TheVariants as body
 use Rattle.homa_plain.specs.declared.settings.Settings.{Settings}
-use Rattle.homa_plain.specs.Choice.{new_end}
+use Rattle.homa_plain.specs.Grants.{new_end}
 use Rattle.homa_plain.specs.Sending.{Arriving}
 use Rattle.homa_plain.specs.Work.{Work, posts}
 use Rattle.homa_plain.specs.Steps.{grants_at}

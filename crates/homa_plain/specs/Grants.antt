@@ -1,7 +1,7 @@
--- GRANTs: to how many messages (overcommitment), to which, at which priority, up to where. And which rows are due.
-use Rattle.std.specs.Prelude.{◌≡◌, ◌<◌, true, Some, slice_get, Contains, ℕ, suc, ◌+◌, ◌-◌, nat_lt, nat_le, min, if◌then◌else◌, Option, List, [], ◌∷◌}
-use Rattle.std.specs.Prelude.{◌++◌, length, take, filter}
-use Rattle.plain_sets.specs.Ordered.{is_below, ordered, firsts, first_of}
+-- GRANTs: to how many messages (overcommitment), to which, at which priority, up to where.
+use Rattle.std.specs.Prelude.{◌≡◌, ◌<◌, true, Some, slice_get, Contains, ℕ, suc, ◌+◌, ◌-◌, nat_lt, min, if◌then◌else◌, List, [], ◌∷◌}
+use Rattle.std.specs.Prelude.{◌++◌, length, take}
+use Rattle.plain_sets.specs.Ordered.{is_below, ordered, firsts}
 use Rattle.plain_sets.specs.Maps.{len}
 use Rattle.homa_plain.specs.declared.id.HostId.{HostId}
 use Rattle.homa_plain.specs.Incoming.{Incoming}
@@ -62,23 +62,6 @@ module _ {X : Type 0} (message : X → Message) where
   -- the GRANTs of a step, in order of rank
   abbrev pub grants : ℕ → ℕ → List X → List (Granted X)
   grants k window xs = let cs = chosen k xs in grants_from window (length cs) 0 cs
-
--- the thing that comes first by a key; for messages to be sent the key is the bytes left, and then the order
-abbrev pub least : {X : Type 0} → (X → ℕ × ℕ) → List X → Option X
-least key xs = first_of (ordered key xs)
-
--- the things whose deadline has come, by deadline and then by order, at most n
-abbrev pub first_due : {X : Type 0} → (X → ℕ × ℕ) → ℕ → ℕ → List X → List X
-first_due key n now xs = take n (ordered key (filter (λ x. nat_le (key x).0 now) xs))
-
--- how many rows may act in a turn
-abbrev pub most_acts : ℕ
-most_acts = 32
-
--- the rows that act in a turn: the first 32 that are due; the key of a row is its deadline and its order
--- A rule of this project: the bound keeps a step short.
-unfoldable pub due : {X : Type 0} → (X → ℕ × ℕ) → ℕ → List X → List X
-due key now xs = first_due key most_acts now xs
 
 -- y comes before x
 abbrev pub IsBefore : {X : Type 0} → (X → ℕ × ℕ) → X → X → Type 0
