@@ -6,7 +6,7 @@ ghost use Rattle.homa_plain.specs.declared.settings.Settings.{Settings};
 ghost use Rattle.homa_plain.specs.declared.packet.Body.{Body};
 ghost use Rattle.homa_plain.specs.Rows.{ServerRow};
 ghost use Rattle.homa_plain.specs.Rules.{Moment as PlainMoment};
-ghost use Rattle.homa_plain.specs.AtServer.{buried_gets};
+ghost use Rattle.homa_plain.specs.Unknown.{buried_gets};
 ghost use Rattle.homa_in.specs.Pieces.{piece_in};
 ghost use Rattle.homa_server.specs.Answers.{IsAnswered, has_run, IsSlotOf, slot_in, slot_if};
 ghost use Rattle.homa_server.specs.Answers.{is_data, is_resend, IfSaid, IsAnswerBody};

@@ -17,7 +17,8 @@ use Rattle.homa_plain.specs.Host.{Host, pages_for}
 use Rattle.homa_plain.specs.Rules.{Moment, Answer, Piece, Did, leaves, keeps, opening, version_of}
 use Rattle.homa_plain.specs.AtClient.{renewed, refreshed, answered, response_piece, unasked, client_gets, started_over}
 use Rattle.homa_plain.specs.AtClient as client
-use Rattle.homa_plain.specs.AtServer.{piece_comes, runs, opens, piece_of, unknown_gets, receiving_gets, held_gets, replying_gets, buried_gets}
+use Rattle.homa_plain.specs.AtServer.{piece_comes, runs, opens, piece_of, unknown_gets, receiving_gets, held_gets, replying_gets}
+use Rattle.homa_plain.specs.Unknown.{buried_gets}
 use Rattle.homa_plain.specs.AtServer.{row_gets, server_gets}
 use Rattle.homa_plain.specs.Tombstones.{state_acked, server_acked}
 use Rattle.homa_plain.specs.Timers.{client_acts, server_acts, state_acts}

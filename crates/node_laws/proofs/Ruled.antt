@@ -27,7 +27,8 @@ use Rattle.homa_plain.specs.Busy.{busy_for}
 use Rattle.homa_plain.specs.AtClient.{client_gets}
 use Rattle.homa_plain.specs.AtServer.{with_state, replying, runs, opens, piece_of, unknown_gets, receiving_gets, held_gets, touched, response_resent}
 use Rattle.homa_plain.specs.Tombstones.{buried}
-use Rattle.homa_plain.specs.AtServer.{replying_gets, buried_gets, row_gets, server_gets}
+use Rattle.homa_plain.specs.AtServer.{replying_gets, row_gets, server_gets}
+use Rattle.homa_plain.specs.Unknown.{buried_gets}
 use Rattle.homa_plain.specs.Tombstones.{state_acked, server_acked}
 use Rattle.homa_plain.specs.AtServer as at_server
 use Rattle.homa_plain.specs.Timers.{resend_of, wanted, client_acts, state_acts, server_acts}

@@ -24,7 +24,8 @@ use Rattle.homa_plain.specs.Rules.{Moment, Answer, Piece, Did, leaves, keeps, op
 use Rattle.homa_plain.specs.Busy.{busy_for}
 use Rattle.homa_plain.specs.AtClient.{unasked, client_gets}
 use Rattle.homa_plain.specs.AtClient as client
-use Rattle.homa_plain.specs.AtServer.{held_gets, replying_gets, buried_gets, runs, piece_comes, opens, piece_of, unknown_gets, receiving_gets}
+use Rattle.homa_plain.specs.AtServer.{held_gets, replying_gets, runs, piece_comes, opens, piece_of, unknown_gets, receiving_gets}
+use Rattle.homa_plain.specs.Unknown.{buried_gets}
 use Rattle.homa_plain.specs.AtServer.{row_gets, server_gets}
 use Rattle.homa_plain.specs.Timers.{Place, OfClient, OfServer, Timer, timer_key, timers, resend_of, wanted, client_acts, state_acts, server_acts}
 use Rattle.homa_plain.specs.Work.{Work, begun, now_of, said, tells}

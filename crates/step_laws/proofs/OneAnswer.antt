@@ -28,7 +28,8 @@ use Rattle.homa_plain.specs.Rules.{Moment, Answer, Piece, Say, Tells, Did, leave
 use Rattle.homa_plain.specs.Busy.{busy_for}
 use Rattle.homa_plain.specs.AtClient.{unasked, client_gets}
 use Rattle.homa_plain.specs.AtClient as client
-use Rattle.homa_plain.specs.AtServer.{held_gets, replying_gets, buried_gets, runs, piece_added, piece_comes, opens, piece_of, unknown_gets}
+use Rattle.homa_plain.specs.AtServer.{held_gets, replying_gets, runs, piece_added, piece_comes, opens, piece_of, unknown_gets}
+use Rattle.homa_plain.specs.Unknown.{buried_gets}
 use Rattle.homa_plain.specs.AtServer.{receiving_gets, row_gets, server_gets}
 use Rattle.homa_plain.specs.Tombstones.{server_acked}
 use Rattle.homa_plain.specs.Work.{Work, begun, now_of, said, tells}

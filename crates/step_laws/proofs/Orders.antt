@@ -16,7 +16,8 @@ use Rattle.homa_plain.specs.Host.{pages_for}
 use Rattle.homa_plain.specs.Rules.{Moment, Answer, Piece, Did, leaves, keeps, opening, version_of}
 use Rattle.homa_plain.specs.AtClient.{unasked, client_gets}
 use Rattle.homa_plain.specs.AtClient as client
-use Rattle.homa_plain.specs.AtServer.{held_gets, replying_gets, buried_gets, runs, piece_comes, opens, piece_of, unknown_gets, receiving_gets}
+use Rattle.homa_plain.specs.AtServer.{held_gets, replying_gets, runs, piece_comes, opens, piece_of, unknown_gets, receiving_gets}
+use Rattle.homa_plain.specs.Unknown.{buried_gets}
 use Rattle.homa_plain.specs.AtServer.{row_gets, server_gets}
 use Rattle.homa_plain.specs.Tombstones.{state_acked, server_acked}
 use Rattle.homa_plain.specs.Timers.{client_acts, state_acts, server_acts}

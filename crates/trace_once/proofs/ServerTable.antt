@@ -28,7 +28,8 @@ use Rattle.homa_plain.specs.Host.{pages_for}
 use Rattle.homa_plain.specs.Rules.{Moment, Answer, Piece, Say, Tells, Posts, Did, leaves, opening, says, version_of}
 use Rattle.homa_plain.specs.Busy.{busy_for}
 use Rattle.homa_plain.specs.AtServer.{with_state, runs, piece_added, piece_comes, opens, piece_of, unknown_gets, receiving_gets, held_gets, touched}
-use Rattle.homa_plain.specs.AtServer.{replying_gets, buried_gets, row_gets, server_gets}
+use Rattle.homa_plain.specs.AtServer.{replying_gets, row_gets, server_gets}
+use Rattle.homa_plain.specs.Unknown.{buried_gets}
 use Rattle.trace_rules.specs.View.{Called}
 use Rattle.homa_plain.proofs.ArrivalLaws.{arrived-with_bytes, below-with_bytes, sound-opened, arrived-opened, part-with_bytes, message-whole}
 use Rattle.homa_plain.proofs.OutgoingLaws as out_laws

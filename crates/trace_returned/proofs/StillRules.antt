@@ -17,7 +17,8 @@ use Rattle.homa_plain.specs.Rows.{ClientRow, ServerRow, State, Receiving, Held, 
 use Rattle.homa_plain.specs.Rules.{Moment, Answer, Say, Tells, Posts, Did}
 use Rattle.homa_plain.specs.Busy.{busy_for}
 use Rattle.homa_plain.specs.AtClient.{unasked, started_over, answered, refreshed}
-use Rattle.homa_plain.specs.AtServer.{unknown_gets, receiving_gets, held_gets, replying_gets, buried_gets}
+use Rattle.homa_plain.specs.AtServer.{unknown_gets, receiving_gets, held_gets, replying_gets}
+use Rattle.homa_plain.specs.Unknown.{buried_gets}
 use Rattle.homa_plain.specs.Tombstones.{state_acked, server_acked}
 use Rattle.homa_plain.specs.Timers.{resend_of, wanted, client_acts, state_acts, server_acts}
 use Rattle.trace_steps.specs.Stands.{state_of}
