@@ -2,8 +2,8 @@
  *
  * A host calls services of other hosts and serves their calls. The program feeds it with datagrams, turns and calls; each is one
  * step of the host. After a step it sends the frames of that step (homa_frames, homa_frame) and reads its entries (homa_entries,
- * homa_entry, homa_whole), before it does anything else. The next homa_call, homa_deliver, homa_answer or homa_turn may end what is
- * shown of the last step, also where it isn't done. docs/use/library.md shows the loops of a client and of a server.
+ * homa_entry, homa_whole), before it does anything else. After the next homa_call, homa_deliver, homa_answer or homa_turn they may be
+ * gone, even if it isn't done. docs/use/library.md shows the loops of a client and of a server.
  *
  * Ticks: `now` counts ticks of the host's own clock, 0 to 1,000,000,002,000. The program says how long a tick is. A host's clock
  * never falls; two steps may have one tick. No step begins if `now` is below the tick of the last step (BAD_TICK), past the last tick, or
@@ -20,8 +20,8 @@
  * - one call at a time on a handle, and none from a signal handler. A handle may go from one thread to another where one has ended its
  *   call before the other begins, as with a mutex; different handles know nothing of each other;
  * - `from` is the host that sent the datagram, or no host at all did; and a datagram isn't delivered to another host.
- * What is proved of many hosts, as that a call runs at most once in a life of its server, is proved of a world. No clause says that a net
- * of programs is one: docs/use/library.md, 'What a program must guarantee', says what they see to.
+ * What is proved of many hosts, as that a call runs at most once in an incarnation of its server, is proved of a world. No clause says that
+ * a net of programs is one: docs/use/library.md, 'What a program must guarantee', says what they see to.
  */
 #ifndef HOMA_H
 #define HOMA_H
@@ -36,14 +36,15 @@
 #include <string.h>
 
 /* What a call answers. A right program meets those below 16; from 16 on it made a mistake. homa_text_of has a word for each. Unless it is
- * HOMA_OK, nothing happened to the host, and nothing was written but what the call says. What is shown of the last step stays, but where a
- * datagram asks or finds no memory: then no frame and no entry is shown. Behind a homa_call that is SPENT, and a homa_answer that finds no
- * memory, it stays or nothing is shown. If more than one cause holds, the first of this order is told. At opening: the handle, a setting,
- * `id`, the incarnation, `last`. Else: the handle, the length of the datagram, the host, SPENT by the clock or the steps, BAD_TICK, the
- * length of the message, its pages, FULL, SPENT by the numbers. Of homa_answer: the handle, GONE, NO_BYTES, then as else. */
+ * HOMA_OK, nothing happened to the host, and nothing was written but what the call says. The last step's frames and entries can still be
+ * read, unless a datagram asks or finds no memory: then they are gone. After a homa_call that is SPENT, and a homa_answer that finds no
+ * memory, they can still be read or are gone. If more than one cause holds, the result is the first of this order. At opening: the handle, a
+ * setting, `id`, the incarnation, `last`. At other calls: the handle, the length of the datagram, the host, SPENT by the clock or the steps,
+ * BAD_TICK, the length of the message, its pages, FULL, SPENT by the numbers. At homa_answer: the handle, GONE, NO_BYTES, then as at
+ * other calls. */
 enum {
     HOMA_OK = 0,
-    HOMA_ASKS = 1,             /* of homa_deliver: an answer is wanted */
+    HOMA_ASKS = 1,             /* of homa_deliver: an answer is needed */
     HOMA_NO_MEMORY = 3,        /* there is no memory; the same call may be tried again */
     HOMA_FULL = 4,             /* of homa_call, later: as many calls are live as `calls` says; of homa_deliver: no room to keep what asks */
     HOMA_SPENT = 5,            /* never in this incarnation: its numbers, its steps or its clock are at their end */
@@ -65,7 +66,7 @@ enum {
 };
 #define HOMA_IS_MISTAKE(result) ((result) >= 16u)
 
-/* Kinds of entries. Behind each: what it has beside its kind, in homa_entry_info; and in homa_entry_more the `peer` and `at`. A program
+/* Kinds of entries. After each: what it has beside its kind, in homa_entry_info; and in homa_entry_more the `peer` and `at`. A program
  * passes over the kinds that it doesn't know. */
 enum {
     HOMA_OTHER = 0,
@@ -82,7 +83,7 @@ enum {
     HOMA_GAPS = 9,      /* a piece wasn't taken: its message would have over 64 gaps. id. peer: who sent it */
     HOMA_DROPPED = 10,  /* a request was given up before it was whole. id. peer: the client */
     HOMA_BURIED = 11,   /* a call that was served is over, and is remembered for a time. id. peer: the client. at: up to which tick */
-    HOMA_FREED = 12,    /* and isn't remembered any more. id. peer: the client */
+    HOMA_FREED = 12,    /* a call that was served isn't remembered any more. id. peer: the client */
     HOMA_CALLED = 13,   /* a call began. id, service, len: bytes of the request. peer: its server */
     HOMA_SENT = 14,     /* a frame was sent. id, len: bytes of its payload. peer: to whom. at: the kind of packet (docs/understand/protocol.md) */
     HOMA_BALANCED = 15  /* levels were computed anew. len: their version */
@@ -144,14 +145,14 @@ typedef struct {
     size_t len;
 } homa_entry_info;
 
-/* What more an entry tells: another host, or HOMA_NO_PEER, and a second number, or 0. */
+/* What more an entry has: another host, or HOMA_NO_PEER, and a second number, or 0. */
 #define HOMA_NO_PEER 0xffffu
 typedef struct {
     uint16_t peer;
     uint64_t at;
 } homa_more_info;
 
-/* What a host counts from its opening on; the last three are so now. A count that rises stands still at 2^64 - 1. */
+/* What a host counts from its opening on; the last three say how it is now. A count that rises stands still at 2^64 - 1. */
 enum {
     HOMA_COUNT_CALLS, HOMA_COUNT_DONE, HOMA_COUNT_TIMEOUTS, HOMA_COUNT_FORGOTTEN, /* calls that began, and how they ended */
     HOMA_COUNT_ASKED, HOMA_COUNT_RAN,                                             /* datagrams that asked, and requests that were answered */
@@ -197,14 +198,14 @@ HOMA_POINTERS void homa_service(homa_settings *settings);
  * `window`; 17 `rate` is under `seg`. homa_text_of_setting has a word for each. */
 HOMA_POINTERS uint32_t homa_wrong_setting(const homa_settings *settings);
 
-/* Opens a host without calls in a closed handle. `id` is its number, 0 to hosts - 1; `incarnation`, at least 1, is larger than in
- * each earlier life of this host. In one that was used, a new call gets an old call's response as its own, and is DONE. `last` is the tick
+/* Opens a host without calls in a closed handle. `id` is its number, 0 to hosts - 1; `incarnation`, at least 1, is larger than
+ * each earlier one of this host. In one that was used, a new call gets an old call's response as its own, and is DONE. `last` is the tick
  * of its last step then, 0 before the first. Memory: see docs/use/limits.md.
  * IS_OPEN, BAD_SETTING, BAD_HOST, BAD_INCARNATION, BAD_TICK, NO_MEMORY: the handle stays as it was. */
 HOMA_POINTERS uint32_t homa_open(const homa_settings *settings, uint16_t id, uint32_t incarnation, uint64_t last, homa_host *host);
 
-/* Opens a host as homa_open does, that keeps what asks: of each call the datagram that asked last. While a call is kept it is told once, and
- * its answer may come later, by homa_answer. There is room for `kept` calls, 1 to 4,096. A kept datagram is delivered at most `keep` ticks
+/* Opens a host as homa_open does, that keeps what asks: of each call the datagram that asked last. While a call is kept it is reported once,
+ * and its answer may come later, by homa_answer. There is room for `kept` calls, 1 to 4,096. A kept datagram is delivered at most `keep` ticks
  * after it came, 0 to `life`; let it be several times `resend`, so that a client that waits has a fresh datagram here. With wire 2 the host
  * looks at a datagram's age besides, and `life` will do. With wire 1 nothing else does: a datagram comes to homa_deliver at most
  * `life - keep` ticks after it was sent.
@@ -222,8 +223,8 @@ HOMA_POINTERS uint32_t homa_close(homa_host *host);
 HOMA_POINTERS uint32_t homa_call(homa_host *host, uint16_t server, uint8_t service, const uint8_t *request, size_t len, uint64_t now,
                                  homa_call_id *id);
 
-/* A datagram came from the host `from`. In hand is an answer of 1 to 1,000,000 bytes for the request that it may make whole, or none, of
- * 0 bytes. A service whose answers may be empty puts a byte of its own in front. Bytes that are no packet change no call, but are a step
+/* A datagram came from the host `from`. `answer` has 1 to 1,000,000 bytes for the request that it may make whole, or 0 bytes if there is
+ * none. A service whose answers may be empty puts a byte of its own in front. Bytes that are no packet change no call, but are a step
  * all the same, which may send what waits.
  * OK: the step is done. That the answer was taken says an entry HOMA_RAN alone: it names the call, and exactly these bytes are its
  *   response. Without one it wasn't taken (docs/use/library.md, 'An answer that isn't taken').
@@ -235,37 +236,37 @@ HOMA_POINTERS uint32_t homa_call(homa_host *host, uint16_t server, uint8_t servi
  *
  * At a host that keeps what asks (homa_open_late), with no answer:
  * OK: the step is done. If it asks for a call whose answer is kept, the step has that answer, and an entry HOMA_RAN names the call.
- * ASKS: it asks for the call `asked`, which is kept from now on, and homa_whole has its request. It is told once as long as it is kept. Give
- *   the answer by homa_answer.
+ * ASKS: it asks for the call `asked`, which is kept from now on, and homa_whole has its request. It is reported once as long as it is kept.
+ *   Give the answer by homa_answer.
  * AT_WORK: it asks for a call that is kept, and takes the place of the datagram that asked before. Nothing is to be done.
  * FULL: it asks, and there is no room to keep it. A client that still waits asks again.
  * NO_MEMORY: it asks, and there is no memory to keep it, or for the answer that is kept. A client that still waits asks again.
- * With these four nothing happened to the host, and no frame and no entry is shown.
- * With an answer in hand it is as at a host that keeps nothing; a call that runs isn't kept any more. */
+ * With these four nothing happened to the host, and there is no frame and no entry.
+ * With an answer it is as at a host that keeps nothing; a call that runs isn't kept any more. */
 HOMA_POINTERS uint32_t homa_deliver(homa_host *host, uint16_t from, const uint8_t *frame, size_t len, uint64_t now, const uint8_t *answer,
                                     size_t answer_len, homa_asked *asked);
 
-/* The answer to a call that was told (ASKS) and is kept, of 1 to 1,000,000 bytes: the step of the datagram that asked last for it, with this answer.
+/* The answer to a call that was reported (ASKS) and is kept, of 1 to 1,000,000 bytes: the step of the datagram that asked last for it.
  * OK: the step is done; read its frames and entries. An entry HOMA_RAN names the call if the answer was taken. If it wasn't, the library
  *   keeps the answer, and gives it to the next datagram that asks for the call.
- * LATER: the datagram is older than `keep`, and there was no step. The answer is kept as above. What is shown stays.
- * GONE: no such call waits for an answer. It was answered or declined, it had to make room, or it never asked. What is shown stays.
- * NO_MEMORY: the call waits on. What is shown stays, or nothing is shown.
+ * LATER: the datagram is older than `keep`, and there was no step. The answer is kept as above.
+ * GONE: no such call waits for an answer. It was answered or declined, it had to make room, or it never asked.
+ * NO_MEMORY: the call waits on. The last step's frames and entries can still be read, or are gone.
  * SPENT, NOT_OPEN, BAD_HOST, BAD_TICK, NO_BYTES, TOO_LONG, TOO_MANY_PAGES: the call waits on.
  *
  * A call isn't kept any more when a step ran it, when it is declined, or when it makes room. If another call asks and there is no room, the
  * call goes whose datagram came first, unless that is at most `keep` ticks old. */
 HOMA_POINTERS uint32_t homa_answer(homa_host *host, const homa_call_id *id, const uint8_t *answer, size_t len, uint64_t now);
 
-/* No answer to a call will come: it isn't kept any more, and is told again if it asks again. GONE: it wasn't kept. NOT_OPEN. */
+/* No answer to a call will come: it isn't kept any more, and is reported again if it asks again. GONE: it wasn't kept. NOT_OPEN. */
 HOMA_POINTERS uint32_t homa_decline(homa_host *host, const homa_call_id *id);
 
 /* A turn: of the rows that are due at this tick 32 at most act, and what waits may be sent. SPENT, NOT_OPEN, BAD_TICK. */
 HOMA_POINTERS uint32_t homa_turn(homa_host *host, uint64_t now);
 
 /* The tick before which no turn does anything. At each tick after the last step and before `at`, a turn would send no frame and have
- * no entry. It would change nothing but the host's clock and its credit, which it may fill up (`rate`). `at` is the tick after that of the
- * last step, where bytes of a message wait to be sent, or the deadline of a row, which may be past.
+ * no entry. It would change nothing but the host's clock and its credit, which it may fill up (`rate`). `at` is the tick after the
+ * last step's if bytes of a message wait to be sent, and otherwise the deadline of a row, which may be past.
  * NEVER: no turn that may begin does anything before the next call or datagram; at the clock's end that is so too, but at the last tick
  *   itself what waits may be sent. NOT_OPEN. `at` isn't written then. */
 HOMA_POINTERS uint32_t homa_next_turn(homa_host *host, uint64_t *at);
@@ -273,8 +274,8 @@ HOMA_POINTERS uint32_t homa_next_turn(homa_host *host, uint64_t *at);
 /* How many frames the last step sent: 0 to 64. */
 HOMA_POINTERS size_t homa_frames(homa_host *host);
 
-/* Copies frame `i`, from 0, to the front of `room`; 1500 bytes are always enough, and what is behind the frame stays. NOT_THERE, NO_ROOM,
- * NOT_OPEN: nothing is written. */
+/* Copies frame `i`, from 0, to the beginning of `room`; 1500 bytes are always enough, and the rest of `room` stays as it is. NOT_THERE,
+ * NO_ROOM, NOT_OPEN: nothing is written. */
 HOMA_POINTERS uint32_t homa_frame(homa_host *host, size_t i, uint8_t *room, size_t room_len, homa_frame_info *info);
 
 /* The level of frame `i`: 0 to 7, where 7 goes first. A program may give it a priority of its net, as DSCP. 0 if there is no such frame. */
@@ -286,15 +287,15 @@ HOMA_POINTERS size_t homa_entries(homa_host *host);
 /* Entry `i`, from 0. NOT_THERE, NOT_OPEN: nothing is written. */
 HOMA_POINTERS uint32_t homa_entry(homa_host *host, size_t i, homa_entry_info *info);
 
-/* What more entry `i` tells. NOT_THERE, NOT_OPEN: nothing is written. */
+/* What more entry `i` has. NOT_THERE, NOT_OPEN: nothing is written. */
 HOMA_POINTERS uint32_t homa_entry_more(homa_host *host, size_t i, homa_more_info *more);
 
-/* How many bytes the message has that became whole in the last step: 1 to 1,000,000, or 0 where none did. It is the
+/* How many bytes the message has that became whole in the last step: 1 to 1,000,000, or 0 if none did. It is the
  * request that is asked about or was answered (HOMA_RAN), or the response of a call that is done (HOMA_DONE). A step makes one message whole
  * at most. */
 HOMA_POINTERS size_t homa_whole_len(homa_host *host);
 
-/* Copies that message to the front of `room`; what is behind it stays. NO_ROOM, NOT_OPEN: nothing is written. */
+/* Copies that message to the beginning of `room`; the rest of `room` stays as it is. NO_ROOM, NOT_OPEN: nothing is written. */
 HOMA_POINTERS uint32_t homa_whole(homa_host *host, uint8_t *room, size_t room_len, size_t *len);
 
 /* How many calls are live: 0 to `calls`. 0 if the handle isn't open. */

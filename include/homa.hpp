@@ -1,5 +1,5 @@
-// A host as an object of C++17: open from its constructor to its destructor, moved but not copied, with no block of the heap for a frame.
-// homa.h says what each call does, and what a program owes.
+// A host as an object of C++17. It is open from its constructor to its destructor, moves and isn't copied. A frame takes no block of the heap.
+// homa.h says what each call does, and what a program must guarantee.
 #ifndef HOMA_HPP
 #define HOMA_HPP
 
@@ -40,14 +40,14 @@ struct call_less {
     }
 };
 
-// What a call throws that isn't done, as "homa_call: full"; want of memory is std::bad_alloc. Nothing happened to the host then.
+// What a call throws that isn't done, as "homa_call: full"; if there is no memory it is std::bad_alloc. Nothing happened to the host then.
 class refused : public std::runtime_error {
     std::uint32_t result;
 
 public:
     refused(const char *call, std::uint32_t code) : std::runtime_error(std::string(call) + ": " + homa_text_of(code)), result(code) {}
     std::uint32_t code() const { return result; }
-    // The program made a mistake; else it is HOMA_FULL, for now, or HOMA_SPENT, for as long as this incarnation lasts.
+    // Whether the program made a mistake; otherwise it is HOMA_FULL, for now, or HOMA_SPENT, for as long as this incarnation lasts.
     bool is_mistake() const { return HOMA_IS_MISTAKE(result); }
 };
 
@@ -85,7 +85,7 @@ public:
         return id;
     }
 
-    // A datagram came, with an answer in hand or with none. The call that asks for one, if one does; nothing happened then.
+    // A datagram came, with an answer or without one. Returns the call that asks for one, if one does; nothing happened then.
     [[nodiscard]] std::optional<homa_asked> deliver(std::uint16_t from, view datagram, std::uint64_t now, view answer = {}) {
         homa_asked asked;
         std::uint32_t result = homa_deliver(&handle, from, datagram.data(), datagram.size(), now, answer.data(), answer.size(), &asked);
@@ -96,7 +96,7 @@ public:
 
     void turn(std::uint64_t now) { need(homa_turn(&handle, now), "homa_turn"); }
 
-    // The tick before which no turn does anything. None where none does before the next call or datagram.
+    // The tick before which no turn does anything. None if none does before the next call or datagram.
     [[nodiscard]] std::optional<std::uint64_t> next_turn() {
         std::uint64_t at;
         return homa_next_turn(&handle, &at) == HOMA_OK ? std::optional<std::uint64_t>(at) : std::nullopt;
@@ -151,7 +151,7 @@ public:
     }
 };
 
-// A host that keeps the datagrams that ask (homa_open_late): a call is told once while it is kept, and its answer may come later. Calls,
+// A host that keeps the datagrams that ask (homa_open_late): a call is reported once while it is kept; its answer may come later. Calls,
 // turns, frames and entries are those of every host. docs/use/library.md, 'An answer that isn't ready', says how long a call waits.
 class late_host : public host {
 public:
@@ -167,7 +167,7 @@ public:
     // How many calls are kept.
     std::uint64_t at_work() { return homa_count(&handle, HOMA_COUNT_KEPT); }
 
-    // A datagram came. `asks`: `asked` wants an answer, and is told once while it is kept; whole() has the request. `at_work` and `full`: it
+    // A datagram came. `asks`: `asked` needs an answer, and is reported once while it is kept; whole() has the request. `at_work` and `full`: it
     // asks again, or there is no room to keep it; nothing happened, and there is nothing to read.
     [[nodiscard]] came deliver(std::uint16_t from, view datagram, std::uint64_t now, homa_asked &asked) {
         switch (std::uint32_t result = homa_deliver(&handle, from, datagram.data(), datagram.size(), now, HOMA_NONE, 0, &asked)) {
@@ -188,7 +188,7 @@ public:
         }
     }
 
-    // No answer will come: if the call asks again, it is told again. Whether it was kept.
+    // No answer will come: if the call asks again, it is reported again. Returns whether it was kept.
     bool decline(const homa_call_id &id) { return homa_decline(&handle, &id) == HOMA_OK; }
 };
 

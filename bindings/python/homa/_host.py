@@ -161,7 +161,7 @@ class Done(NamedTuple):
 
 
 class TimedOut(NamedTuple):
-    """A call failed: behind its RESENDs nothing came that counts. It may have been served, and may still be."""
+    """A call failed: after its RESENDs nothing came that counts. It may have been served, and may still be."""
 
     id: CallId
 
@@ -176,8 +176,8 @@ Event = Union[Ran, Done, TimedOut, Forgotten]
 
 
 class Note(NamedTuple):
-    """What a step tells of the net and of the host itself: a word for it, the call if it names one, the other host, and two numbers
-    (include/homa.h, 'Kinds of entries')."""
+    """What a step reports of the net and of the host itself: a word for it, the call if it names one, the other host, and two numbers.
+    include/homa.h, 'Kinds of entries', says which."""
 
     what: str
     id: CallId | None
@@ -302,7 +302,7 @@ class Host:
         return _id(it)
 
     def deliver(self, source: int, datagram: bytes, now: int, answer: bytes = b"") -> Ask | None:
-        """A datagram came. None where a step was done; else an answer is wanted, and nothing happened."""
+        """A datagram came. None if a step was done; otherwise an answer is needed, and nothing happened."""
         asked = _Asked()
         code = self._library.homa_deliver(self._handle, source, datagram, len(datagram), now, answer, len(answer), asked)
         if code == ASKS:
@@ -314,7 +314,7 @@ class Host:
         _need(self._library.homa_turn(self._handle, now), "homa_turn")
 
     def next_turn(self) -> int | None:
-        """The tick before which no turn does anything; None where none does before the next call or datagram."""
+        """The tick before which no turn does anything; None if none does before the next call or datagram."""
         at = U64()
         return at.value if self._library.homa_next_turn(self._handle, at) == OK else None
 
@@ -327,7 +327,7 @@ class Host:
         return all_of_them
 
     def events(self) -> list[Event]:
-        """What the last step told of calls."""
+        """What the last step reports of calls."""
         entry = _Entry()
         told: list[Event] = []
         for i in range(self._library.homa_entries(self._handle)):
@@ -343,7 +343,7 @@ class Host:
         return told
 
     def notes(self) -> list[Note]:
-        """What the last step told of the net and of the host itself."""
+        """What the last step reports of the net and of the host itself."""
         entry, more = _Entry(), _More()
         told: list[Note] = []
         for i in range(self._library.homa_entries(self._handle)):

@@ -16,7 +16,7 @@ class Answered(enum.Enum):
 
 
 class LateHost(Host):
-    """A host with room for `kept` calls, 1 to 4,096: each is told once while it is kept, and may be answered later. A kept datagram is
+    """A host with room for `kept` calls, 1 to 4,096: each is reported once while it is kept, and may be answered later. A kept datagram is
     delivered at most `keep` ticks after it came, 0 to `life` of the settings."""
 
     def __init__(self, settings: Settings, number: int, incarnation: int, last: int = 0, *, kept: int = 1024, keep: int | None = None) -> None:
@@ -29,7 +29,7 @@ class LateHost(Host):
         _need(code, f"homa_open_late: {settings.fault or 'kept or keep'}" if code == BAD_SETTING else "homa_open_late")
 
     def deliver(self, source: int, datagram: bytes, now: int, answer: bytes = b"") -> Ask | None:
-        """A datagram came. What is asked, once for each call while it is kept. None also where it asks for a call that is kept, or there is no
+        """A datagram came. What is asked, once for each call while it is kept. None also if it asks for a call that is kept, or there is no
         room for one more: then `frames` and `events` have nothing."""
         asked = _Asked()
         code = self._library.homa_deliver(self._handle, source, datagram, len(datagram), now, answer, len(answer), asked)
@@ -48,5 +48,5 @@ class LateHost(Host):
         return Answered.STEP
 
     def decline(self, id: CallId) -> bool:
-        """No answer will come: if the call asks again, it is told again. Whether it was kept."""
+        """No answer will come: if the call asks again, it is reported again. Whether it was kept."""
         return bool(self._library.homa_decline(self._handle, _Call(*id)) == 0)

@@ -16,7 +16,7 @@ log = logging.getLogger("homa")
 
 
 class CallFailed(Exception):
-    """A call failed. Its request was served at most once in each life of its server."""
+    """A call failed. Its request was served at most once in each incarnation of its server."""
 
 
 class CallTimeout(CallFailed, TimeoutError):
@@ -30,8 +30,8 @@ class CallForgotten(CallFailed):
 class Endpoint(asyncio.DatagramProtocol):
     """Host `number` of those in `addresses`, open inside `async with`. All endpoints of a net have the same settings, ticks and epoch.
 
-    `incarnation` must be larger than in each earlier life of this host. Where it is left out it is the second of the wall clock, and the
-    endpoint waits for the next second before it opens; no two processes may be this host at a time, which the bound port sees to."""
+    `incarnation` must be larger than each earlier one of this host. If it is left out, it is the second of the wall clock, and the endpoint
+    waits for the next second before it opens. No two processes may be this host at a time; the bound port sees to that."""
 
     def __init__(
         self, number: int, addresses: Mapping[int, Address], *, settings: Settings = Settings(rate=1_000_000), tick: float = 0.001, epoch: float = 1_735_689_600,
@@ -104,7 +104,7 @@ class Endpoint(asyncio.DatagramProtocol):
         return self._host.live
 
     async def call(self, host: int, service: int, request: bytes, *, timeout: float | None = None) -> bytes:
-        """The response of a call. `timeout` is the caller's own, in seconds: the host goes on with a call that is given up, which stays one of
+        """The response of a call. `timeout` is the caller's own, in seconds. The host goes on with a call that is given up, which stays one of
         its `calls` until it ends."""
         id = self._host.call(host, service, request, self.now())
         future = self._calls[id] = self._loop.create_future()
@@ -171,7 +171,7 @@ class Endpoint(asyncio.DatagramProtocol):
             answered = self._host.answer(id, answer, self.now())
         except MemoryError:
             log.warning("service %d of host %d: no memory for an answer", service, self.number)
-            self._host.decline(id)  # it asks again, and is told again
+            self._host.decline(id)  # it asks again, and is reported again
             return
         if answered is Answered.STEP:
             self._after(self._host.events())

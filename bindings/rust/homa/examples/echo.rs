@@ -23,7 +23,7 @@ impl Node {
         (self.began.elapsed().as_nanos() / TICK.as_nanos()) as u64
     }
 
-    /// Waits for a datagram or for the next turn, and takes all that is there. What the steps told.
+    /// Waits for a datagram or for the next turn, and takes all that is there. Returns what the steps reported.
     fn round(&mut self, serve: impl Fn(&[u8]) -> Vec<u8>) -> io::Result<Vec<Event>> {
         let (mut room, mut told) = ([0; 2048], Vec::new());
         let at = self.host.next_turn().map_or(Duration::from_millis(100), |at| TICK * (at.min(1 << 31) as u32));

@@ -11,7 +11,7 @@ pub struct LateHost {
 pub enum Heard<'a> {
     /// A step was done.
     Step(Step<'a>),
-    /// A call wants an answer. It is told once while it is kept.
+    /// A call needs an answer. It is reported once while it is kept.
     Asks(Ask),
     /// It asks for a call that is kept. Nothing happened.
     AtWork,
@@ -21,7 +21,7 @@ pub enum Heard<'a> {
 
 /// What came of an answer.
 pub enum Answered<'a> {
-    /// A step was done. An event [`crate::Event::Ran`] says that the answer was taken; else it is kept for the next datagram that asks.
+    /// A step was done. An event [`crate::Event::Ran`] says that the answer was taken; otherwise it is kept for the next datagram that asks.
     Step(Step<'a>),
     /// The datagram is too old; the answer is kept for the next that asks.
     Later,
@@ -77,7 +77,7 @@ impl LateHost {
         })
     }
 
-    /// No answer will come: if the call asks again, it is told again. False if it isn't kept.
+    /// No answer will come: if the call asks again, it is reported again. False if it isn't kept.
     pub fn decline(&mut self, id: CallId) -> bool {
         // SAFETY: as for `deliver`.
         unsafe { sys::homa_decline(self.host.raw(), &id) == sys::HOMA_OK }

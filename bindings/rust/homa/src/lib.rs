@@ -182,11 +182,11 @@ pub struct Ask {
 pub enum Came<'a> {
     /// A step was done.
     Step(Step<'a>),
-    /// An answer is wanted, and nothing happened: deliver the same datagram with it.
+    /// An answer is needed, and nothing happened: deliver the same datagram with it.
     Asks(Ask),
 }
 
-/// What a step tells a program.
+/// What a step reports to a program.
 #[derive(Clone, Debug, PartialEq, Eq)]
 #[non_exhaustive]
 pub enum Event {
@@ -194,13 +194,13 @@ pub enum Event {
     Ran { id: CallId, service: u8 },
     /// A call is done: its response.
     Done { id: CallId, response: Vec<u8> },
-    /// A call failed: behind its RESENDs nothing came that counts. It may have been served, and may still be.
+    /// A call failed: after its RESENDs nothing came that counts. It may have been served, and may still be.
     Timeout { id: CallId },
     /// A call failed: it was served, and the response is gone.
     Forgotten { id: CallId },
 }
 
-/// What a step tells of the net and of the host itself, for logs and counters.
+/// What a step reports of the net and of the host itself, for logs and counters.
 #[derive(Clone, Copy, Debug, PartialEq, Eq)]
 #[non_exhaustive]
 pub enum Note {
@@ -295,7 +295,7 @@ impl Host {
         Ok((id, self.step()))
     }
 
-    /// A datagram came from a host, and no answer is in hand.
+    /// A datagram came from a host, without an answer.
     pub fn deliver(&mut self, from: u16, datagram: &[u8], now: u64) -> Result<Came<'_>, Error> {
         self.deliver_with(from, datagram, now, &[])
     }
@@ -388,7 +388,7 @@ pub struct Step<'a> {
 }
 
 impl Step<'_> {
-    /// Hands each frame of the step to `send`, with the host that it goes to.
+    /// Gives each frame of the step to `send`, with the host that it goes to.
     pub fn send(&mut self, mut send: impl FnMut(u16, &[u8])) {
         let mut room = [0; MOST_FRAME];
         let mut info = sys::homa_frame_info::default();
@@ -412,7 +412,7 @@ impl Step<'_> {
 
     fn whole(&mut self) -> Vec<u8> {
         let raw = self.host.raw();
-        // SAFETY: the vector has room for `len` bytes, of which the call writes as many as it says; a vector's pointer isn't null.
+        // SAFETY: the vector has room for `len` bytes, and the call writes as many of them as it says; a vector's pointer isn't null.
         unsafe {
             let len = sys::homa_whole_len(raw);
             let (mut bytes, mut got) = (Vec::with_capacity(len), 0);
@@ -423,7 +423,7 @@ impl Step<'_> {
         }
     }
 
-    /// What the step tells of the net and of the host itself.
+    /// What the step reports of the net and of the host itself.
     pub fn notes(&mut self) -> Vec<Note> {
         let (mut entry, mut more) = (sys::homa_entry_info::default(), sys::homa_more_info::default());
         let raw = self.host.raw();
@@ -438,7 +438,7 @@ impl Step<'_> {
         all
     }
 
-    /// What the step tells a program.
+    /// What the step reports to a program.
     pub fn events(&mut self) -> Vec<Event> {
         let mut all = Vec::new();
         let mut entry = sys::homa_entry_info::default();
