@@ -2,8 +2,9 @@
 //!
 //! Model: what a sink took of a node's run, whole or in part, as `print_node` of `node_output` says it. There is no code
 //! here: a law is the contract of a function that does nothing.
-//! Main promise: if a node's net gives only packets that the node's hosts sent, with version 1 within `life` ticks, the lines
-//! that the sink took whole have the shape and obey all five laws, however the run ended or was broken off (`what_is_printed_obeys`).
+//! Main promise (`what_is_printed_obeys`): if a node's net gives only packets that the node's hosts sent, with version 1 within
+//! `life` ticks, the lines that the sink took whole have the shape and obey all five laws. It holds however the run ended or was
+//! broken off.
 #![tactic(auto)]
 
 ghost use Rattle.node_print_laws.specs.Printed.{WholePrintsObey, PartPrintsObey};

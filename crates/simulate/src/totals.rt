@@ -13,13 +13,16 @@ use experiment::Experiment;
 use simulated_network::{LinkUse, RunOutcome, Waits, Window};
 use std::alloc::{AllocError, Global};
 
-/// What waited at all cards, or at all outputs: the most bytes at one of them; the mean of the bytes at one, by their sum
-/// over time and by the waits of packets; and the mean wait of a packet.
+/// What waited at all cards, or at all outputs, in bytes and nanoseconds.
 #[derive(Clone, Copy)]
 pub(crate) struct Queue {
+    /// The most bytes at one of them.
     pub(crate) most: u64,
+    /// The mean of the bytes at one, by their sum over time.
     pub(crate) mean: u64,
+    /// The same mean, by the waits of packets.
     pub(crate) little: u64,
+    /// The mean wait of a packet.
     pub(crate) wait_ns: u64,
 }
 

@@ -3,9 +3,10 @@ ghost use Rattle.std.specs.Prelude.{◌≡◌, ◌≤◌, ◌<◌, ◌+◌, ◌-
 
 use run_gauges::Spans;
 
-/// How links to hosts were used, all together: all of their time, for how long they were taken, and for how long they were idle, by
-/// cause: while overcommitment held a grant back; else while packets were under way to the host; else while a message was
-/// incomplete there; else with nothing to come. `wasted` is the idle time in which bytes of a message weren't granted.
+/// How links to hosts were used, all together: the time in which they were taken, and their idle time by cause. The first
+/// cause that holds counts: overcommitment held a grant back (`withheld`); packets were under way to the host (`coming`); a
+/// message was incomplete there (`unsent`); nothing was to come (`empty`). In the time `wasted` a link was idle and bytes of
+/// a message weren't granted.
 #[derive(Clone, Copy, Debug)]
 pub struct LinkUse {
     pub time: u128,

@@ -11,8 +11,8 @@ use std::alloc::{AllocError, Global};
 // The most bytes of a request or of an injected datagram.
 const MOST_BYTES: u32 = 1_000_000;
 
-/// What doesn't change in a run: the world's settings, the number of the service that is called, the bytes of which each
-/// request has a front, after how many events the run stops (0: never), and whether its events are printed.
+/// What doesn't change in a run. Each request is a prefix of `bytes`. The run stops after `most_events` events, and never
+/// with 0.
 #[derive(Drop)]
 pub(crate) struct Setup {
     pub(crate) alloc: Global,
