@@ -30,11 +30,11 @@ use Rattle.homa_client.specs.declared.answers.RowDid.{RowDid}
 use Rattle.homa_client.specs.declared.answers.RowDid.TheVariants.{Touched, Opened, Done, Full, Gaps, Busy, Forgotten}
 use Rattle.homa_client.proofs.TableLaws.{moved_in, put_stands, put_moved, put_in, gone_moved, gone_in}
 
--- a packet of a server, as the client sees it
-abbrev pub from_server : HostId → HostId → WirePacket → List ℕ → Packet
-from_server from host w payload = record {
+-- a packet of a server, as the client of its call sees it
+abbrev pub from_server : CallId → HostId → WirePacket → List ℕ → Packet
+from_server id from w payload = record {
   role = Server;
-  id = record { client = host; inc = w.inc; seq = w.seq };
+  id = id;
   server = from;
   inc = w.sender;
   at = w.at;
@@ -43,9 +43,10 @@ from_server from host w payload = record {
   payload = payload;
 }
 
-pub of_server : (from host : HostId) (w : WirePacket) (payload : List ℕ) → w.role ≡ Server
-    → from_server from host w payload ≡ packet_between from host w payload
-of_server from host w payload e = ap (λ (role : Role). record {
+pub of_server : (from host : HostId) (w : WirePacket) (payload : List ℕ) (id : CallId) → w.role ≡ Server
+    → id ≡ record { client = host; inc = w.inc; seq = w.seq }
+    → from_server id from w payload ≡ packet_between from host w payload
+of_server from host w payload id e is = ap (λ (id : CallId). from_server id from w payload) is ∙ ap (λ (role : Role). record {
   role = role;
   id = call_between role from host w.inc w.seq;
   server = server_between role from host;
@@ -57,12 +58,13 @@ of_server from host w payload e = ap (λ (role : Role). record {
 }) (sym e)
 
 -- so what is known of one is known of the other
-pub between : (from : HostId) (w : WirePacket) (payload : List ℕ) → w.role ≡ Server
-    → (t : Clients) (pool : Pool) (now order : ℕ) (new : Clients) (pool' : Pool) (told : List ℕ) (answer : ClientDid)
-    → Received t pool (from_server from t.host w payload) now order new pool' told answer
+pub between : (from : HostId) (w : WirePacket) (payload : List ℕ) (id : CallId) → w.role ≡ Server
+    → (t : Clients) → id ≡ record { client = t.host; inc = w.inc; seq = w.seq }
+    → (pool : Pool) (now order : ℕ) (new : Clients) (pool' : Pool) (told : List ℕ) (answer : ClientDid)
+    → Received t pool (from_server id from w payload) now order new pool' told answer
     → Received t pool (packet_between from t.host w payload) now order new pool' told answer
-between from w payload e t pool now order new pool' told answer is =
-    subst (λ (p : Packet). Received t pool p now order new pool' told answer) (of_server from t.host w payload e) is
+between from w payload id e t is pool now order new pool' told answer got =
+    subst (λ (p : Packet). Received t pool p now order new pool' told answer) (of_server from t.host w payload id e is) got
 
 -- the place of a row, if the packet is for it
 abbrev taking : Packet → Option (Placed HeldRow) → Option ℕ

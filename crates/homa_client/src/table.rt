@@ -177,11 +177,7 @@ impl ClientTable {
         ensures pool { AreIn lent.new.pool.now (part_at self.new.rows) }
         ensures lent { IsSame lent.old lent.new }
     {
-        let id = CallId {
-            client: self.host,
-            inc: packet.inc,
-            seq: packet.seq,
-        };
+        let id = packet.call(self.host);
         let Some(slot) = self.rows.find(id) else {
             return not_live(&packet.body);
         };

@@ -170,10 +170,10 @@ pub record HasReceived (c : HostParts) (from : HostId) (packet : WirePacket) (pa
 module _ (c : HostParts) (kept : IsKept c) {from : HostId} {packet : WirePacket} {payload : List ℕ} {now : ℕ} {clients : Clients} {pool : Pool}
     {told : List ℕ} {d : ClientDid} (taken : HasReceived c from packet payload now clients pool told d) where
   abbrev pub p : Packet
-  p = from_server from c.control.id packet payload
+  p = from_server (record { client = c.control.id; inc = packet.inc; seq = packet.seq }) from packet payload
 
   pub is_p : p ≡ packet_between from c.control.id packet payload
-  is_p = of_server from c.control.id packet payload taken.role
+  is_p = of_server from c.control.id packet payload p.id taken.role refl
 
   pub got : Received c.clients c.pool p now c.order clients pool told d
   got =

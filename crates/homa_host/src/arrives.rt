@@ -76,11 +76,7 @@ impl HostParts {
                         Ok(())
                     }
                     Err(_) => {
-                        let id = CallId {
-                            client: from,
-                            inc: packet.inc,
-                            seq: packet.seq,
-                        };
+                        let id = packet.call(from);
                         let number = service_of(&packet.body);
                         Err(Asked { id, number })
                     }
@@ -141,11 +137,7 @@ impl HostParts {
             → response_of (host_of self.new) q ≡ response_of (host_of self.old) q }
         ensures steady { Steady 5 0 0 self.old out.old self.new out.new }
     {
-        let id = CallId {
-            client: from,
-            inc: packet.inc,
-            seq: packet.seq,
-        };
+        let id = packet.call(from);
         match &packet.body {
             Body::Data {
                 ack: Some((inc, seq)),

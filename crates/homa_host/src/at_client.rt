@@ -22,7 +22,7 @@ ghost use Rattle.homa_host.specs.Outcomes.{head_in, IfTouched};
 use crate::outcome::{PieceHead, client_change, client_orders, client_outcome, head_of};
 use crate::parts::{HostParts, follow_client};
 use homa_client::{ClientDid, ClientTable};
-use homa_plain::{CallId, HostId, Packet};
+use homa_plain::{HostId, Packet};
 use host_view::Outbox;
 use msg_pool::Scratch;
 
@@ -50,11 +50,7 @@ impl HostParts {
             (comes_to_row self.old.control.settings (packet_between from self.old.control.id packet.now payload.now) a OfServerRole w).told }
         ensures steady { Steady 4 3 1 self.old out.old self.new out.new }
     {
-        let id = CallId {
-            client: self.control.id(),
-            inc: packet.inc,
-            seq: packet.seq,
-        };
+        let id = packet.call(self.control.id());
         let now = self.control.last();
         // For the proof: the pool's pages are those that are free and those that are leased.
         let _free = self.pool.free();

@@ -71,11 +71,7 @@ impl HostParts {
         ensures refused { OnErr result (IsRefused V.served lent.old lent.new) }
         ensures lent { IsSame V.allows lent.old lent.new }
     {
-        let id = CallId {
-            client: from,
-            inc: packet.inc,
-            seq: packet.seq,
-        };
+        let id = packet.call(from);
         // For the proof: the pool's pages are those that are free and those that are leased.
         let _free = self.pool.free();
         let did = self.servers.receive(

@@ -414,11 +414,7 @@ fn sent_entry(number: u32, out: &Outbox, wire: u32) -> Entry<'_>
         to,
         inc: packet.sender,
         role: packet.role,
-        id: CallId {
-            client,
-            inc: packet.inc,
-            seq: packet.seq,
-        },
+        id: packet.call(client),
         level: packet.level,
         body: packet.body,
         payload: &bytes[span.from..span.to],

@@ -215,8 +215,9 @@ module _ (t seen : Servers) (is : t ≡ seen) (id : CallId) (none : get seen.row
           (still_new t id none_here now order pool what payload Client t.host 0 0 0 pool' told allowed answer are_here place row moves)
 
 -- a packet that its client sent, as one of its call
-pub sent_is : (from host : HostId) (w : WirePacket) (payload : List ℕ) → w.role ≡ Client
-    → packet_of (record { client = from; inc = w.inc; seq = w.seq }) w.body payload w.role (server_between w.role from host) w.sender w.at w.level
-    ≡ packet_between from host w payload
-sent_is from host w payload e =
-    ap (λ (r : Role). packet_of (call_between r from host w.inc w.seq) w.body payload w.role (server_between w.role from host) w.sender w.at w.level) (sym e)
+pub sent_is : (from host : HostId) (w : WirePacket) (payload : List ℕ) (id : CallId) → w.role ≡ Client
+    → id ≡ record { client = from; inc = w.inc; seq = w.seq }
+    → packet_of id w.body payload w.role (server_between w.role from host) w.sender w.at w.level ≡ packet_between from host w payload
+sent_is from host w payload id e is =
+    ap (λ (q : CallId). packet_of q w.body payload w.role (server_between w.role from host) w.sender w.at w.level)
+    (is ∙ ap (λ (r : Role). call_between r from host w.inc w.seq) (sym e))

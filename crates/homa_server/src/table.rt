@@ -158,11 +158,7 @@ impl ServerTable {
         ensures refused { OnErr result (IsRefused V.served lent.old lent.new) }
         ensures lent { IsSame V.allows lent.old lent.new }
     {
-        let id = CallId {
-            client: from,
-            inc: packet.inc,
-            seq: packet.seq,
-        };
+        let id = packet.call(from);
         match self.rows.find(id) {
             Some(slot) => self.known_gets(alloc, at, id, slot, &packet.body, payload, lent),
             None => self.unknown_gets(alloc, at, id, &packet.body, payload, lent),

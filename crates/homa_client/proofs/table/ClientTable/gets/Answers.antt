@@ -18,9 +18,10 @@ pub returns-in_default-clause-received : goal.returns-in_default-clause-received
 returns-in_default-clause-received c =
     let are = subst (λ (t : Clients). AreIn c.args.lent.now.pool.now (part_at t.rows)) (sym c.self.view_is) c.requires.pool in
     let t = the_view c.self.inside in
-    let p = from_server c.args.from t.host c.args.packet.now c.args.payload.now in
+    let p = from_server c.call-id.result c.args.from c.args.packet.now c.args.payload.now in
     rw (← c.self.view_is)
-    (between c.args.from c.args.packet.now c.args.payload.now c.requires.role t c.args.lent.now.pool.now c.args.at.now c.args.at.order _ _ _ _
+    (between c.args.from c.args.packet.now c.args.payload.now c.call-id.result c.requires.role t c.call-id.ensures
+    c.args.lent.now.pool.now c.args.at.now c.args.at.order _ _ _ _
     (received_none t c.args.lent.now.pool.now p c.args.at.now c.args.at.order c.args.lent.now.scratch.now are c.in_default.ensures.absent c.not_live.result
     (λ m. c.not_live.ensures.did m p c.args.lent.now.scratch.now) c.not_live.ensures.slot c.not_live.ensures.said))
 
@@ -28,7 +29,7 @@ pub returns-then-not-takes-clause-received : goal.returns-then-not-takes-clause-
 returns-then-not-takes-clause-received c =
     let are = subst (λ (t : Clients). AreIn c.args.lent.now.pool.now (part_at t.rows)) (sym c.self.view_is) c.requires.pool in
     let t = the_view c.self.inside in
-    let p = from_server c.args.from t.host c.args.packet.now c.args.payload.now in
+    let p = from_server c.call-id.result c.args.from c.args.packet.now c.args.payload.now in
     let at = some_placed (get t.rows p.id) c.in-Some.slot (sym c.in-Some.ensures.place) in
     let there : StandsAt c.args.self.now.rows p.id c.in-Some.slot at.0 =
     subst (λ (t : Clients). StandsAt t.rows p.id c.in-Some.slot at.0) c.self.view_is at.1 in
@@ -36,7 +37,8 @@ returns-then-not-takes-clause-received c =
     sym c.if-not-takes.true ∙ c.takes.ensures ∙ ap (λ (r : HeldRow). is_host c.args.from r.server && not (ltb c.args.packet.now.sender r.seen))
     (c.row_at.ensures p.id at.0 there) in
     rw (← c.self.view_is)
-    (between c.args.from c.args.packet.now c.args.payload.now c.requires.role t c.args.lent.now.pool.now c.args.at.now c.args.at.order _ _ _ _
+    (between c.args.from c.args.packet.now c.args.payload.now c.call-id.result c.requires.role t c.call-id.ensures
+    c.args.lent.now.pool.now c.args.at.now c.args.at.order _ _ _ _
     (received_other t c.args.lent.now.pool.now p c.args.at.now c.args.at.order c.args.lent.now.scratch.now are c.in-Some.slot at.0 at.1 refused))
 
 pub gets-did-requires-clause-pool : goal.gets-did-requires-clause-pool
@@ -52,7 +54,7 @@ invariant_of-self c = table_set c.self.inside.host c.self.inside.inc c.self.insi
 pub finish-requires : goal.finish-requires
 finish-requires c =
     let t = the_view c.self.inside in
-    let p = from_server c.args.from t.host c.args.packet.now c.args.payload.now in
+    let p = from_server c.call-id.result c.args.from c.args.packet.now c.args.payload.now in
     let at = some_placed (get t.rows p.id) c.in-Some.slot (sym c.in-Some.ensures.place) in
     ap (option_map (λ (s : CallId × HeldRow). s.0))
     (put_spot t c.self.inside.rows.room c.row_mut.ensures.placed p.id c.in-Some.slot at.0 c.gets-did.new.self at.1)
@@ -61,7 +63,7 @@ pub returns-clause-received : goal.returns-clause-received
 returns-clause-received c =
     let are = subst (λ (t : Clients). AreIn c.args.lent.now.pool.now (part_at t.rows)) (sym c.self.view_is) c.requires.pool in
     let t = the_view c.self.inside in
-    let p = from_server c.args.from t.host c.args.packet.now c.args.payload.now in
+    let p = from_server c.call-id.result c.args.from c.args.packet.now c.args.payload.now in
     let at = some_placed (get t.rows p.id) c.in-Some.slot (sym c.in-Some.ensures.place) in
     let there : StandsAt c.args.self.now.rows p.id c.in-Some.slot at.0 =
     subst (λ (t : Clients). StandsAt t.rows p.id c.in-Some.slot at.0) c.self.view_is at.1 in
@@ -75,13 +77,14 @@ returns-clause-received c =
     c.args.lent.now.pool.now c.gets-did.new.lent.pool.now are c.args.at.now c.args.at.order c.gets-did.new.lent.scratch.now c.gets-did.result
     takes (λ rows. c.gets-did.ensures.gave t.settings t.host rows refl) in
     rw (← c.self.view_is, c.finish.ensures.answer, c.finish.ensures.rows)
-    (between c.args.from c.args.packet.now c.args.payload.now c.requires.role t c.args.lent.now.pool.now c.args.at.now c.args.at.order _ _ _ _ gave)
+    (between c.args.from c.args.packet.now c.args.payload.now c.call-id.result c.requires.role t c.call-id.ensures
+    c.args.lent.now.pool.now c.args.at.now c.args.at.order _ _ _ _ gave)
 
 pub returns-clause-pool : goal.returns-clause-pool
 returns-clause-pool c =
     let are = subst (λ (t : Clients). AreIn c.args.lent.now.pool.now (part_at t.rows)) (sym c.self.view_is) c.requires.pool in
     let t = the_view c.self.inside in
-    let p = from_server c.args.from t.host c.args.packet.now c.args.payload.now in
+    let p = from_server c.call-id.result c.args.from c.args.packet.now c.args.payload.now in
     let at = some_placed (get t.rows p.id) c.in-Some.slot (sym c.in-Some.ensures.place) in
     let is : c.row_mut.result.now ≡ at.0 =
     lent c.self.inside.rows.room c.self.inside.rows.rows c.row_mut.ensures.placed c.in-Some.slot c.row_mut.result.now c.row_mut.ensures.row p.id at.0 at.1 in

@@ -1,9 +1,10 @@
 -- A packet of a server comes to a call's client.
-use Rattle.std.proofs.Common.{◌+◌, sym, subst, ap, arith, List}
+use Rattle.std.proofs.Common.{◌+◌, ◌∙◌, sym, subst, ap, arith, List}
 use Rattle.homa_plain.specs.Host.{Told}
 use Rattle.homa_plain.specs.Packets.{Packet}
 use Rattle.std.specs.List.{AllByRecursion}
 use Rattle.plain_sets.specs.Maps.{get}
+use Rattle.homa_plain.specs.declared.id.CallId.{CallId}
 use Rattle.homa_plain.specs.declared.id.HostId.{HostId}
 use Rattle.homa_plain.specs.Rows.{ClientRow}
 use Rattle.homa_plain.specs.AtClient.{client_gets}
@@ -69,9 +70,8 @@ returns-clause-step c = λ w a amid.
     let outcome = subst (λ (x : Did ClientRow). IsOutcome x c.client_outcome-outcome.result) (sym (gets_is host c.requires.kept x w amid.host))
     (c.client_outcome-outcome.ensures.outcome (moment s q.id w) q (row_at c.receive-did.new.pool c.receive-did.new.self.rows q.id)
     c.receive-did.new.scratch c.head_of-head.ensures touched) in
-    let settled = subst
-    (λ (h : HostId). IsAt (asked s (record { client = h; inc = c.args.packet.now.inc; seq = c.args.packet.now.seq }) c.args.from did w)
-    c.settle_client.new.self c.settle_client.new.out) c.id.ensures
+    let settled = subst (λ (id : CallId). IsAt (asked s id c.args.from did w) c.settle_client.new.self c.settle_client.new.out)
+    (c.call-id.ensures ∙ ap (λ (h : HostId). record { client = h; inc = c.args.packet.now.inc; seq = c.args.packet.now.seq }) c.id.ensures)
     (c.settle_client.ensures.step did w outcome (at-amid w host c.args.out.now amid)) in
     let after = gets_amid host c.requires.kept x c.settle_client.new.self c.follow_client.new.books (host.order + c.client_orders.result)
     (ap (λ n. host.order + n) c.client_orders.ensures.order)

@@ -199,9 +199,9 @@ returns-in-Err-clause-asks g c a =
     let request : Asked =
     record { id = id; service = service_in (piece_in c.args.packet.now.body c.args.payload.now); request = c.server_gets.new.lent.scratch.now } in
     let asked = came.acked_asks s (acks p) (comes_to_row s p a Client v) request (c.in-Err.ensures.asks a) in
-    subst (λ (w : Work). HasAsked id c.service_of-number.result c.server_gets.new.lent.scratch.now w.told) (sym is)
-    (subst (λ (n : ℕ). HasAsked id n c.server_gets.new.lent.scratch.now (acked s (acks p) (comes_to_row s p a Client v)).told)
-    (sym (c.service_of-number.ensures c.args.payload.now)) asked)
+    subst (λ (w : Work). HasAsked c.call-id.result c.service_of-number.result c.server_gets.new.lent.scratch.now w.told) (sym is)
+    (subst (λ (x : CallId × ℕ). HasAsked x.0 x.1 c.server_gets.new.lent.scratch.now (acked s (acks p) (comes_to_row s p a Client v)).told)
+    (λ i. (sym c.call-id.ensures i, sym (c.service_of-number.ensures c.args.payload.now) i)) asked)
 
 pub returns-in-Err-clause-kept : goal.returns-in-Err-clause-kept
 returns-in-Err-clause-kept g c = c.server_gets.ensures.kept

@@ -1,6 +1,7 @@
 -- A packet of a client comes to a call's server.
-use Rattle.std.proofs.Common.{Result, Ok, Err, OnErr, ◌+◌, refl, sym, subst, ap, arith, ℕ}
+use Rattle.std.proofs.Common.{Result, Ok, Err, OnErr, ◌≡◌, ◌∙◌, ◌+◌, refl, sym, subst, ap, arith, ℕ}
 use Rattle.homa_plain.specs.declared.settings.Settings.{Settings}
+use Rattle.host_state.specs.Control.{IsAt}
 use Rattle.host_state.specs.Saying.{one_of, IsOutcome}
 use Rattle.homa_plain.specs.declared.id.CallId.{CallId}
 use Rattle.homa_host.specs.Parts.{host_of, IsKept}
@@ -17,9 +18,9 @@ use Rattle.homa_plain.specs.Packets.{Packet, packet_between}
 use Rattle.homa_plain.specs.AtServer.{server_gets}
 use Rattle.homa_plain.specs.Rows.{ServerRow}
 use Rattle.homa_plain.specs.Rules.{Did}
-use Rattle.homa_plain.specs.Steps.{moment}
+use Rattle.homa_plain.specs.Steps.{moment, served}
 use Rattle.homa_in.specs.Pieces.{piece_in}
-use Rattle.homa_server.specs.Answers.{service_in, IsAsked}
+use Rattle.homa_server.specs.Answers.{service_in, served_of, IsAsked}
 use Rattle.homa_host.specs.Amid.{Amid}
 use Rattle.homa_host.proofs.Begun.{at-amid}
 use Rattle.homa_host.proofs.ServerGets.{HasTaken, taken_by, touched_stays, gets_stands, gets_follows, gets_kept, gets_touched, gets_then, heard_host, row_now}
@@ -73,11 +74,16 @@ settled g c x follows =
     (λ r. c.touched_version-touched.ensures packet c.receive.new.pool packet.id r c.head_of-head.ensures) in
     settled_by host x c.settle_server.new.self c.settle_server.new.out c.follow_server.new.books (host.order + c.server_orders.result)
     (ap (λ n. host.order + n) c.server_orders.ensures.order) follows (λ a reply.
-    c.settle_server.ensures.step (rule host x a) w
-    (subst (λ (d : Did ServerRow). IsOutcome d c.server_outcome-outcome.result) (sym (rule_is host x a reply))
+    let is : rule host x a ≡ served_of s (moment s packet.id w) c.call-id.result (piece_in packet.body packet.payload) row c.receive.new.scratch a
+    c.in_ok-did.did = rule_is host x a reply ∙ ap (λ (id : CallId). served_of s (moment s packet.id w) id (piece_in packet.body packet.payload) row
+    c.receive.new.scratch a c.in_ok-did.did) (sym c.call-id.ensures) in
+    subst (λ (id : CallId). IsAt (served s id (rule host x a) w) c.settle_server.new.self c.settle_server.new.out) c.call-id.ensures
+    (c.settle_server.ensures.step (rule host x a) w
+    (subst (λ (d : Did ServerRow). IsOutcome d c.server_outcome-outcome.result) (sym is)
     (c.server_outcome-outcome.ensures.outcome s (moment s packet.id w) packet row c.receive.new.scratch a c.head_of-head.ensures
-    (sym (ap (λ (s : Settings). s.served) c.settings-settings.ensures.settings)) (c.service_of-number.ensures packet.payload) touched refl))
-    (at-amid w heard c.args.lent.now.out.now (subst (λ frames. Amid w heard frames) (sym c.requires.begins.out) x.heard.amid)))
+    (sym (ap (λ (s : Settings). s.served) c.settings-settings.ensures.settings)) (c.service_of-number.ensures packet.payload) touched
+    (sym c.call-id.ensures)))
+    (at-amid w heard c.args.lent.now.out.now (subst (λ frames. Amid w heard frames) (sym c.requires.begins.out) x.heard.amid))))
 
 err_any : {A E : Type 0} (r : Result A E) (P : Type 0) → P → OnErr r P
 err_any (Ok x) P h = tt

@@ -19,7 +19,7 @@ returns-in-Some-clause-received g c =
     c.known_gets.new.lent.scratch.now
     (λ request response hold. g.V.Service.allows c.args.lent.now.service.now (g.V.Service.served c.args.lent.now.service.now)
     (service_in (piece_in w.body c.args.payload.now)) request response hold) answer)
-    (sent_is c.args.from c.args.self.now.host w c.args.payload.now c.requires.role)
+    (sent_is c.args.from c.args.self.now.host w c.args.payload.now c.call-id.result c.requires.role c.call-id.ensures)
     (taken.received w.role (server_between w.role c.args.from c.args.self.now.host) w.sender w.at w.level))
     c.known_gets.ensures.taken
 
@@ -33,7 +33,7 @@ returns-in-None-clause-received g c =
     c.unknown_gets.new.lent.scratch.now
     (λ request response hold. g.V.Service.allows c.args.lent.now.service.now (g.V.Service.served c.args.lent.now.service.now)
     (service_in (piece_in w.body c.args.payload.now)) request response hold) answer)
-    (sent_is c.args.from c.args.self.now.host w c.args.payload.now c.requires.role)
+    (sent_is c.args.from c.args.self.now.host w c.args.payload.now c.call-id.result c.requires.role c.call-id.ensures)
     (taken.received w.role (server_between w.role c.args.from c.args.self.now.host) w.sender w.at w.level))
     c.unknown_gets.ensures.taken
 
@@ -44,11 +44,11 @@ pub returns-in-Some-clause-asks : goal.returns-in-Some-clause-asks
 returns-in-Some-clause-asks g c =
     let w = c.args.packet.now in
     let t = c.args.self.now in
-    let id : CallId = record { client = c.args.from; inc = w.inc; seq = w.seq } in
     on_err_so c.known_gets.result _ _ c.known_gets.ensures.asked (λ e a.
-    subst (λ (p : Packet). IsAsked id (service_in (piece_in w.body c.args.payload.now)) c.known_gets.new.lent.scratch.now
-    (server_gets t.settings (server_moment t c.args.at.now c.args.at.order c.args.lent.now.pool.now p.id) p a (server_at c.args.lent.now.pool.now t.rows p.id)))
-    (sent_is c.args.from t.host w c.args.payload.now c.requires.role)
+    subst (λ (x : CallId × Packet). IsAsked x.0 (service_in (piece_in w.body c.args.payload.now)) c.known_gets.new.lent.scratch.now
+    (server_gets t.settings (server_moment t c.args.at.now c.args.at.order c.args.lent.now.pool.now x.1.id) x.1 a
+    (server_at c.args.lent.now.pool.now t.rows x.1.id)))
+    (λ i. (c.call-id.ensures i, sent_is c.args.from t.host w c.args.payload.now c.call-id.result c.requires.role c.call-id.ensures i))
     (e.asks w.role (server_between w.role c.args.from t.host) w.sender w.at w.level a))
 
 pub returns-in-Some-clause-same : goal.returns-in-Some-clause-same
@@ -64,11 +64,11 @@ pub returns-in-None-clause-asks : goal.returns-in-None-clause-asks
 returns-in-None-clause-asks g c =
     let w = c.args.packet.now in
     let t = c.args.self.now in
-    let id : CallId = record { client = c.args.from; inc = w.inc; seq = w.seq } in
     on_err_so c.unknown_gets.result _ _ c.unknown_gets.ensures.asked (λ e a.
-    subst (λ (p : Packet). IsAsked id (service_in (piece_in w.body c.args.payload.now)) c.unknown_gets.new.lent.scratch.now
-    (server_gets t.settings (server_moment t c.args.at.now c.args.at.order c.args.lent.now.pool.now p.id) p a (server_at c.args.lent.now.pool.now t.rows p.id)))
-    (sent_is c.args.from t.host w c.args.payload.now c.requires.role)
+    subst (λ (x : CallId × Packet). IsAsked x.0 (service_in (piece_in w.body c.args.payload.now)) c.unknown_gets.new.lent.scratch.now
+    (server_gets t.settings (server_moment t c.args.at.now c.args.at.order c.args.lent.now.pool.now x.1.id) x.1 a
+    (server_at c.args.lent.now.pool.now t.rows x.1.id)))
+    (λ i. (c.call-id.ensures i, sent_is c.args.from t.host w c.args.payload.now c.call-id.result c.requires.role c.call-id.ensures i))
     (e.asks w.role (server_between w.role c.args.from t.host) w.sender w.at w.level a))
 
 pub returns-in-None-clause-same : goal.returns-in-None-clause-same
