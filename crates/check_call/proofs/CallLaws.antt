@@ -15,7 +15,7 @@ use Rattle.homa_plain.proofs.CallOrder.{hosts_are}
 use Rattle.trace_rules.specs.Parts as plain
 use Rattle.trace_rules.specs.View.{Called, Sent, Ends, no_ends, View, is_server_of}
 use Rattle.trace_rules.specs.Seen as seen
-use Rattle.check_laws.specs.Spots as spots
+use Rattle.check_call.specs.Spots as spots
 use Rattle.check_call.specs.declared.call.Delivered.{Delivered}
 use Rattle.check_call.specs.declared.call.Call.{Call}
 use Rattle.check_call.specs.declared.call.Lives.{Lives}

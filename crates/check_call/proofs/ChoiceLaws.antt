@@ -4,8 +4,8 @@ use Rattle.std.proofs.Math.Seq.{drop-cons}
 use Rattle.std.specs.Prelude.{◌==◌, ◌||◌, if◌then◌else◌, slice_get}
 use Rattle.std.specs.List.{insert}
 use Rattle.plain_sets.specs.Ordered.{is_below, not_of, ordered, firsts}
-use Rattle.check_laws.specs.Entered.{entered}
-use Rattle.check_laws.proofs.Entering.{chosen-more}
+use Rattle.check_call.specs.Entered.{entered}
+use Rattle.check_call.proofs.Entering.{chosen-more}
 use Rattle.check_call.specs.declared.choice.Message.{Message}
 use Rattle.check_call.specs.Choices.{sender_of, key_of, place_in, is_blocked}
 

@@ -1,3 +1,9 @@
 pub mod PartLaws
 pub mod CallLaws
 pub mod ChoiceLaws
+pub mod Each
+pub mod Block
+pub mod Lines
+pub mod Within
+pub mod Lean
+pub mod Entering

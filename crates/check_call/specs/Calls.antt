@@ -11,7 +11,7 @@ use Rattle.homa_plain.specs.Wire.{is_server}
 use Rattle.homa_plain.specs.Calls.{is_host}
 use Rattle.trace_rules.specs.View.{Called, Sent, Ends, View, has_run}
 use Rattle.trace_rules.specs.Parts as plain
-use Rattle.check_laws.specs.Spots as spots
+use Rattle.check_call.specs.Spots as spots
 use Rattle.check_call.specs.declared.call.Call.{Call}
 use Rattle.check_call.specs.declared.call.Lives.{Lives}
 use Rattle.check_call.specs.declared.call.Delivered.{Delivered}

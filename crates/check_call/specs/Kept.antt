@@ -12,7 +12,7 @@ use Rattle.trace_rules.specs.View.{Sent}
 use Rattle.homa_plain.specs.declared.packet.Role.{Role}
 use Rattle.homa_plain.specs.Wire.{is_client}
 use Rattle.trace_rules.specs.Judge.{are_spaced, is_within_at}
-use Rattle.check_laws.specs.Spots as spots
+use Rattle.check_call.specs.Spots as spots
 use Rattle.check_call.specs.declared.part.Part.{Part}
 use Rattle.check_call.specs.declared.resends.OwnTick.{OwnTick}
 use Rattle.check_call.specs.declared.resends.Resends.{Resends}

@@ -8,7 +8,7 @@ ghost use Rattle.homa_plain.specs.declared.id.CallId.{CallId as ACall};
 ghost use Rattle.homa_plain.specs.Calls.{is_host};
 ghost use Rattle.trace_rules.specs.Parts as plain;
 ghost use Rattle.trace_rules.specs.View.{Sent, View, Ends};
-ghost use Rattle.check_laws.specs.Spots as spots;
+ghost use Rattle.check_call.specs.Spots as spots;
 ghost use Rattle.check_call.specs.Kept.{part_of, IsCounted, IsPlain, Beside, StandsFor, packet_of, piece_is_forgotten};
 ghost use Rattle.check_call.specs.Calls.{spot_in, beside, ran_in, IsSettled, counts_for, Leaves, IsDelivery};
 

@@ -1,7 +1,7 @@
 // The messages that a host may grant to.
 ghost use Rattle.std.specs.Prelude.{◌≡◌, take, slice_get, IfOk, OnOk};
 ghost use Rattle.plain_sets.specs.Ordered.{is_below, ordered, firsts};
-ghost use Rattle.check_laws.specs.Entered.{entered};
+ghost use Rattle.check_call.specs.Entered.{entered};
 ghost use Rattle.check_call.specs.Choices.{sender_of, key_of, place_in, is_blocked};
 
 use homa_plain::{CallId, HostId, Role};

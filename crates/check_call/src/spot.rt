@@ -6,7 +6,7 @@ ghost use Rattle.homa_plain.specs.declared.id.HostId.{HostId};
 ghost use Rattle.trace_rules.specs.Parts as plain;
 ghost use Rattle.trace_rules.specs.View.{Sent};
 ghost use Rattle.trace_rules.specs.Seen as seen;
-ghost use Rattle.check_laws.specs.Spots as spots;
+ghost use Rattle.check_call.specs.Spots as spots;
 ghost use Rattle.check_call.specs.Kept.{part_of, IsCounted, IsPlain, Beside, StandsFor, IsApart, changed, within, is_within_spot, is_incoming};
 
 use crate::part::Part;

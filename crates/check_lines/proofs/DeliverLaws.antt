@@ -12,10 +12,10 @@ use Rattle.homa_plain.specs.Wire.{is_client, is_server}
 use Rattle.trace_rules.specs.View.{View, Sent, Ends, no_ends, is_server_of, Called}
 use Rattle.trace_rules.specs.Seen.{delivered, is_forgotten}
 use Rattle.trace_rules.specs.Parts.{opened, made_whole}
-use Rattle.check_laws.specs.Spots as spots
-use Rattle.check_laws.specs.Spots.{spot, Undo, counts_at, counted_spot, delivered_spot, due_if_refused, due_spot}
-use Rattle.check_laws.specs.Steps.{undo_of}
-use Rattle.check_laws.proofs.Block.{spot_delivered, due_delivered}
+use Rattle.check_call.specs.Spots as spots
+use Rattle.check_call.specs.Spots.{spot, Undo, counts_at, counted_spot, delivered_spot, due_if_refused, due_spot}
+use Rattle.check_call.specs.Steps.{undo_of}
+use Rattle.check_call.proofs.Block.{spot_delivered, due_delivered}
 use Rattle.check_call.specs.declared.call.Call.{Call}
 use Rattle.check_call.specs.declared.packet.Packet.{Packet}
 use Rattle.check_call.specs.Kept.{packet_of, StandsFor, Beside}

@@ -17,9 +17,9 @@ use Rattle.trace_rules.specs.Parts.{Part}
 use Rattle.trace_rules.specs.View.{Called, View, Sent, no_ends, life, restarts_of, is_server_of}
 use Rattle.trace_rules.specs.Seen.{seen, begun, delivered, delivery}
 use Rattle.homa_plain.proofs.CallOrder.{hosts_are}
-use Rattle.check_laws.specs.Spots.{spot, Undo, restarted_spot}
-use Rattle.check_laws.specs.Steps.{undo_after, undo_of}
-use Rattle.check_laws.proofs.Each.{each_restarted}
+use Rattle.check_call.specs.Spots.{spot, Undo, restarted_spot}
+use Rattle.check_call.specs.Steps.{undo_after, undo_of}
+use Rattle.check_call.proofs.Each.{each_restarted}
 use Rattle.check_call.specs.declared.call.Call.{Call}
 use Rattle.check_call.specs.declared.part.Part.{Part as KeptPart}
 use Rattle.check_call.specs.Kept.{StandsFor, part_of, packet_of, no_spot, is_incoming, IsCounted}

@@ -10,8 +10,8 @@ use Rattle.homa_plain.specs.Calls.{is_host, is_call}
 use Rattle.homa_plain.proofs.CallOrder.{calls_are, hosts_are}
 use Rattle.trace_rules.specs.Parts.{Part}
 use Rattle.trace_rules.specs.View.{View, life}
-use Rattle.check_laws.specs.Spots as spots
-use Rattle.check_laws.specs.Spots.{spot}
+use Rattle.check_call.specs.Spots as spots
+use Rattle.check_call.specs.Spots.{spot}
 use Rattle.check_call.specs.declared.part.Part.{Part as KeptPart}
 use Rattle.check_call.specs.declared.spot.Spot.{Spot}
 use Rattle.check_call.specs.declared.call.Call.{Call}

@@ -13,11 +13,11 @@ use Rattle.homa_plain.specs.Entries.{PlainEntry, PlainRun, PlainDone, PlainFail,
 use Rattle.homa_plain.specs.Calls.{is_host}
 use Rattle.trace_rules.specs.View.{Called, View, Sent, no_ends, life, is_server_of}
 use Rattle.trace_rules.specs.Seen.{seen, with_line, refused, sent, stale, is_delivery_to}
-use Rattle.check_laws.specs.Spots as spots
-use Rattle.check_laws.specs.Spots.{spot, Undo, only, undo_each, said_spot, finished_spot, dropped_spot}
-use Rattle.check_laws.specs.Steps.{undo_after, dropped_at}
-use Rattle.check_laws.proofs.Each.{each_dropped}
-use Rattle.check_laws.proofs.Lines.{line_spot}
+use Rattle.check_call.specs.Spots as spots
+use Rattle.check_call.specs.Spots.{spot, Undo, only, undo_each, said_spot, finished_spot, dropped_spot}
+use Rattle.check_call.specs.Steps.{undo_after, dropped_at}
+use Rattle.check_call.proofs.Each.{each_dropped}
+use Rattle.check_call.proofs.Lines.{line_spot}
 use Rattle.check_call.specs.declared.spot.Change.{Change}
 use Rattle.check_call.specs.declared.spot.Change.TheVariants.{Nothing, Finished, Dropped}
 use Rattle.check_call.specs.declared.call.Call.{Call}

@@ -13,8 +13,8 @@ use Rattle.homa_plain.specs.Calls.{is_host}
 use Rattle.trace_rules.specs.View.{Called, Ran, View, life, incarnation, is_server_of, has_run}
 use Rattle.trace_rules.specs.Laws.{answers}
 use Rattle.trace_rules.specs.Judge as tests
-use Rattle.check_laws.specs.Kept.{is_here, is_in}
-use Rattle.check_laws.proofs.Lean.{run_here, answers_of}
+use Rattle.check_call.specs.LeftOut.{is_here, is_in}
+use Rattle.check_call.proofs.Lean.{run_here, answers_of}
 use Rattle.check_call.specs.declared.call.Call.{Call}
 use Rattle.check_call.specs.declared.call.Run.{Run}
 use Rattle.check_lines.specs.declared.host.Host.{Host}

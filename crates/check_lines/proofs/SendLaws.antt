@@ -22,9 +22,9 @@ use Rattle.trace_rules.specs.Parts.{Part}
 use Rattle.trace_rules.specs.View.{Called, View, Sent, life, sent_last, has_last, own_tick}
 use Rattle.trace_rules.specs.Seen.{with_first, in_each, said}
 use Rattle.homa_plain.proofs.CallOrder.{hosts_are}
-use Rattle.check_laws.specs.Spots as spots
-use Rattle.check_laws.specs.Spots.{spot, said_spot, raised_request, raised_response}
-use Rattle.check_laws.proofs.Each.{each_said}
+use Rattle.check_call.specs.Spots as spots
+use Rattle.check_call.specs.Spots.{spot, said_spot, raised_request, raised_response}
+use Rattle.check_call.proofs.Each.{each_said}
 use Rattle.check_call.specs.declared.call.Call.{Call}
 use Rattle.check_call.specs.declared.packet.Packet.{Packet}
 use Rattle.check_call.specs.declared.packet.Piece.{Piece}

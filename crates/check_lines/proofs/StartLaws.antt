@@ -16,10 +16,10 @@ use Rattle.trace_rules.specs.View.{Called, View, Sent, Ran, life, sent_last, has
 use Rattle.trace_rules.specs.Seen.{seen, begun}
 use Rattle.homa_plain.specs.Wire.{is_between}
 use Rattle.homa_plain.proofs.CallOrder.{call_total, calls_are, hosts_are}
-use Rattle.check_laws.specs.Kept.{runs_of}
-use Rattle.check_laws.specs.Spots.{Spot, spot, only, started_spot}
-use Rattle.check_laws.proofs.Each.{each_started}
-use Rattle.check_laws.proofs.Lean.{none_sent}
+use Rattle.check_call.specs.LeftOut.{runs_of}
+use Rattle.check_call.specs.Spots.{Spot, spot, only, started_spot}
+use Rattle.check_call.proofs.Each.{each_started}
+use Rattle.check_call.proofs.Lean.{none_sent}
 use Rattle.check_call.specs.declared.call.Call.{Call}
 use Rattle.check_call.specs.declared.call.Run.{Run}
 use Rattle.check_call.specs.declared.call.Lives.{Lives}

@@ -9,7 +9,7 @@ use Rattle.homa_plain.specs.Settings.{usual}
 use Rattle.homa_plain.specs.Calls.{call_cmp}
 use Rattle.trace_rules.specs.View.{no_ends, nothing_seen, no_progress}
 use Rattle.trace_rules.specs.Granting.{IsWithin, IsWithinAt}
-use Rattle.check_laws.specs.Spots.{spot, IsSame}
+use Rattle.check_call.specs.Spots.{spot, IsSame}
 use Rattle.check_lines.specs.declared.trace.Trace.{Trace}
 use Rattle.check_lines.specs.declared.block.Named.TheVariants.{Nobody}
 use Rattle.check_call.specs.Kept.{no_spot}

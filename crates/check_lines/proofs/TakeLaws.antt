@@ -8,9 +8,9 @@ use Rattle.homa_plain.specs.Calls.{is_host, is_call}
 use Rattle.homa_plain.proofs.CallOrder.{calls_are}
 use Rattle.trace_rules.specs.View.{View, Sent, life, sent_last}
 use Rattle.trace_rules.specs.Seen.{stale, refused, is_delivery_to}
-use Rattle.check_laws.specs.Kept.{runs_of}
-use Rattle.check_laws.specs.Spots as spots
-use Rattle.check_laws.specs.Spots.{spot, Undo, only, undo_each}
+use Rattle.check_call.specs.LeftOut.{runs_of}
+use Rattle.check_call.specs.Spots as spots
+use Rattle.check_call.specs.Spots.{spot, Undo, only, undo_each}
 use Rattle.check_call.specs.declared.spot.Spot.{Spot}
 use Rattle.check_call.specs.declared.spot.Change.{Change}
 use Rattle.check_call.specs.declared.spot.Change.TheVariants.{Nothing}

@@ -15,9 +15,9 @@ use Rattle.homa_plain.proofs.SettingsLemmas.{ok_is_valid}
 use Rattle.trace_rules.specs.View.{View, nothing_seen}
 use Rattle.trace_rules.specs.Seen.{seen}
 use Rattle.homa_plain.specs.Wire.{Between}
-use Rattle.check_laws.specs.Spots.{Undo, IsUndo}
-use Rattle.check_laws.specs.Steps.{undo_after}
-use Rattle.check_laws.proofs.Lines.{line_undo}
+use Rattle.check_call.specs.Spots.{Undo, IsUndo}
+use Rattle.check_call.specs.Steps.{undo_after}
+use Rattle.check_call.proofs.Lines.{line_undo}
 use Rattle.check_call.specs.declared.call.Call.{Call}
 use Rattle.check_call.specs.Calls.{called_of}
 use Rattle.check_lines.specs.declared.block.Delivery.{Delivery}

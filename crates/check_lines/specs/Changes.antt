@@ -8,8 +8,8 @@ use Rattle.homa_plain.specs.Entries.{PlainEntry}
 use Rattle.trace_rules.specs.View.{View, Sent}
 use Rattle.trace_rules.specs.Granting.{IsWithin}
 use Rattle.trace_rules.specs.Seen.{seen, delivered}
-use Rattle.check_laws.specs.Spots as spots
-use Rattle.check_laws.specs.Steps.{undo_after, undo_of}
+use Rattle.check_call.specs.Spots as spots
+use Rattle.check_call.specs.Steps.{undo_after, undo_of}
 use Rattle.check_call.specs.declared.call.Call.{Call}
 use Rattle.check_call.specs.declared.spot.Spot.{Spot}
 use Rattle.check_call.specs.declared.spot.Change.{Change}

@@ -9,7 +9,7 @@ use Rattle.homa_plain.specs.Entries.{PlainEntry, PlainDeliver, PlainRecv, PlainS
 use Rattle.homa_plain.specs.Wire.{is_client, is_server}
 use Rattle.std.specs.Option.{option_map, option_map_or}
 use Rattle.trace_rules.specs.View.{View}
-use Rattle.check_laws.specs.Spots.{spot}
+use Rattle.check_call.specs.Spots.{spot}
 use Rattle.check_call.specs.declared.call.Call.{Call}
 use Rattle.check_call.specs.declared.packet.Packet.{Packet}
 use Rattle.check_call.specs.declared.spot.Change.{Change}

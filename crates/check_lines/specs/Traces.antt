@@ -16,8 +16,8 @@ use Rattle.trace_rules.specs.Parts.{Part, is_message}
 use Rattle.trace_rules.specs.View.{Ran, Ends, no_ends, View, nothing_seen, restarts_of, life, sent_last}
 use Rattle.trace_rules.specs.Granting.{IsWithin}
 use Rattle.trace_rules.specs.Judge as judge
-use Rattle.check_laws.specs.Spots as spots
-use Rattle.check_laws.specs.Kept.{runs_of, AreMade}
+use Rattle.check_call.specs.Spots as spots
+use Rattle.check_call.specs.LeftOut.{runs_of, AreMade}
 use Rattle.check_lines.specs.declared.block.Delivery.{Delivery}
 use Rattle.check_lines.specs.declared.block.Here.{Here}
 use Rattle.check_lines.specs.declared.block.Named.{Named}

@@ -4,7 +4,7 @@ ghost use Rattle.std.specs.Option.{option_to_list, option_map_or};
 ghost use Rattle.check_lines.specs.Changes.{IsChange, IsMade};
 ghost use Rattle.check_lines.specs.Traces.{IsNamed, IsUndoOf, due_of};
 ghost use Rattle.check_lines.specs.declared.trace.Trace.{Trace as ATrace};
-ghost use Rattle.check_laws.specs.Spots.{Spot as ASpot, Undo, undo_each, only};
+ghost use Rattle.check_call.specs.Spots.{Spot as ASpot, Undo, undo_each, only};
 ghost use Rattle.homa_plain.specs.Calls.{is_call, is_host};
 ghost use Rattle.trace_rules.specs.Judge.{are_same_calls};
 ghost use Rattle.homa_plain.specs.declared.id.CallId.{CallId as ACall};

@@ -8,8 +8,8 @@ ghost use Rattle.check_lines.specs.Sends.{change_by, granted_by, first_after, se
 ghost use Rattle.check_lines.specs.Traces.{Follows, Keeps, StandsOr, IsUndoOf, IsDelivered, beside_at, IsPlace, call_at, host_at, lives_in, lead_of};
 ghost use Rattle.check_lines.specs.Traces.{first_of, restarts_in, asked_of, awaited_of, due_of, kept_or};
 ghost use Rattle.check_lines.specs.declared.block.Named.TheVariants.{Nobody};
-ghost use Rattle.check_laws.specs.Spots.{Spot as ASpot, Undo, IsUndo, spot, only, undo_each, said_spot, counted_spot, delivered_spot, due_spot, due_if_refused};
-ghost use Rattle.check_laws.specs.Tested.{IsOther};
+ghost use Rattle.check_call.specs.Spots.{Spot as ASpot, Undo, IsUndo, spot, only, undo_each, said_spot, counted_spot, delivered_spot, due_spot, due_if_refused};
+ghost use Rattle.check_call.specs.Tested.{IsOther};
 ghost use Rattle.check_call.specs.Calls.{spot_in, beside, ends_of, IsSettled, Leaves};
 ghost use Rattle.check_call.specs.Kept.{packet_of};
 ghost use Rattle.check_call.specs.declared.call.Call.{Call as ACall};

@@ -3,7 +3,7 @@ ghost use Rattle.std.specs.Prelude.{◌≡◌, ◌+◌, ◌<◌, ◌≤◌, Some
 ghost use Rattle.check_lines.specs.Changes.{SameHosts, SameLists, SameRest, SameSets, Notes, StandsAt, Changes, call_or, noted};
 ghost use Rattle.check_lines.specs.Traces.{call_at, host_at, IsPlace, lead_of, life_in, lives_in, own_tick_in, Follows, Keeps};
 ghost use Rattle.check_lines.specs.Traces.{asked_of, awaited_of, incoming_of, other};
-ghost use Rattle.check_laws.specs.Spots as spots;
+ghost use Rattle.check_call.specs.Spots as spots;
 ghost use Rattle.check_call.specs.Calls.{spot_in};
 ghost use Rattle.check_call.specs.Kept.{Beside, StandsFor, is_incoming};
 ghost use Rattle.trace_rules.specs.View.{nothing_seen, View};

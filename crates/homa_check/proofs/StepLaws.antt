@@ -21,11 +21,11 @@ use Rattle.homa_plain.specs.Settings.{verdict}
 use Rattle.trace_rules.proofs.LawTests.{granting_is}
 use Rattle.trace_rules.specs.View.{View, Sent, nothing_seen}
 use Rattle.trace_rules.specs.Seen.{seen, begun, delivery}
-use Rattle.check_laws.specs.Spots as spots
-use Rattle.check_laws.specs.Spots.{spot, Undo, IsUndo}
-use Rattle.check_laws.specs.Steps.{undo_after, undo_of}
-use Rattle.check_laws.specs.Tested.{IsWithinSpot, to_test, AtCall, IsOther}
-use Rattle.check_laws.proofs.Within.{same_settings, within_line}
+use Rattle.check_call.specs.Spots as spots
+use Rattle.check_call.specs.Spots.{spot, Undo, IsUndo}
+use Rattle.check_call.specs.Steps.{undo_after, undo_of}
+use Rattle.check_call.specs.Tested.{IsWithinSpot, to_test, AtCall, IsOther}
+use Rattle.check_call.proofs.Within.{same_settings, within_line}
 use Rattle.check_call.specs.Kept.{within, is_within_spot}
 use Rattle.check_lines.specs.declared.block.Delivery.{Delivery}
 use Rattle.check_lines.specs.declared.trace.Trace.{Trace}

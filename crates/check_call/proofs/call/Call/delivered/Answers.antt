@@ -1,6 +1,6 @@
 use Rattle.std.proofs.Common.{◌≡◌, ◌∙◌, refl, sym, ap, length, true, false}
 use Rattle.homa_plain.specs.Wire.{is_client}
-use Rattle.check_laws.specs.Spots as spots
+use Rattle.check_call.specs.Spots as spots
 use Rattle.check_call.specs.Kept.{piece_is_data}
 use Rattle.check_call.specs.Calls.{beside, spot_in}
 use Rattle.check_call.proofs.CallLaws.{known, data_body, data_asks, data_answers, answers_nothing, no_data, leaves_as, counts_still, counted_hosts}

@@ -2,7 +2,7 @@ use Rattle.std.proofs.Common.{◌≡◌, ◌∙◌, refl, sym, ap, subst, Some}
 use Rattle.std.specs.Option.{option_map}
 use Rattle.homa_plain.specs.declared.id.CallId.{CallId}
 use Rattle.trace_rules.specs.Seen.{delivered}
-use Rattle.check_laws.specs.Spots.{spot, delivered_spot}
+use Rattle.check_call.specs.Spots.{spot, delivered_spot}
 use Rattle.check_call.specs.declared.spot.Spot.{Spot}
 use Rattle.check_call.specs.Kept.{StandsFor}
 use Rattle.check_call.specs.Calls.{spot_in, beside}

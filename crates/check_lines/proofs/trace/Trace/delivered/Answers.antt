@@ -1,6 +1,6 @@
 use Rattle.std.proofs.Common.{◌≡◌, ◌∙◌, arith, sym, ap, subst, Some}
 use Rattle.std.proofs.lemmas.Option.{slice_get-get_or}
-use Rattle.check_laws.specs.Spots.{spot, delivered_spot, counted_spot, due_spot, due_if_refused}
+use Rattle.check_call.specs.Spots.{spot, delivered_spot, counted_spot, due_spot, due_if_refused}
 use Rattle.homa_plain.specs.declared.id.CallId.{CallId}
 use Rattle.check_call.specs.declared.call.Call.{Call}
 use Rattle.check_call.specs.declared.call.Lives.{Lives}

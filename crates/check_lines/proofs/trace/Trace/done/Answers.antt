@@ -1,7 +1,7 @@
 use Rattle.std.proofs.Common.{sym, subst}
 use Rattle.homa_plain.specs.Entries.{PlainDone}
 use Rattle.trace_rules.specs.Seen.{seen}
-use Rattle.check_laws.specs.Spots.{finished_spot}
+use Rattle.check_call.specs.Spots.{finished_spot}
 use Rattle.check_lines.specs.Traces.{IsHere}
 use Rattle.check_lines.proofs.LineLaws.{ends, done_changes, here_takes, done_due, done_here}
 use Rattle.check_lines.proofs.trace.Trace.done.Goals as goal

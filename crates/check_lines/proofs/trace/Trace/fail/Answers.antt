@@ -3,7 +3,7 @@ use Rattle.homa_plain.specs.declared.entry.Why.{Why}
 use Rattle.homa_plain.specs.declared.entry.Why.TheVariants.{Timeout, Forgotten}
 use Rattle.homa_plain.specs.Entries.{PlainFail}
 use Rattle.trace_rules.specs.Seen.{seen}
-use Rattle.check_laws.specs.Spots.{finished_spot}
+use Rattle.check_call.specs.Spots.{finished_spot}
 use Rattle.check_lines.specs.Changes.{Takes}
 use Rattle.check_lines.specs.Traces.{IsHere}
 use Rattle.check_lines.proofs.LineLaws.{ends, fail_changes, here_takes, fail_due, timeout_here, forgotten_here}

@@ -1,7 +1,7 @@
 use Rattle.std.proofs.Common.{sym, subst}
 use Rattle.homa_plain.specs.Entries.{PlainDrop}
 use Rattle.trace_rules.specs.Seen.{seen}
-use Rattle.check_laws.specs.Steps.{dropped_at}
+use Rattle.check_call.specs.Steps.{dropped_at}
 use Rattle.check_lines.specs.Traces.{IsHere}
 use Rattle.check_lines.proofs.LineLaws.{drops, drop_changes, here_takes, drop_due, drop_here}
 use Rattle.check_lines.proofs.trace.Trace.give_up.Goals as goal

@@ -1,7 +1,7 @@
 use Rattle.std.proofs.Common.{◌∙◌, sym, ap, subst, true}
 use Rattle.std.specs.Option.{option_map_or}
 use Rattle.homa_plain.specs.declared.id.CallId.{CallId}
-use Rattle.check_laws.specs.Spots.{spot}
+use Rattle.check_call.specs.Spots.{spot}
 use Rattle.check_call.specs.declared.spot.Spot.{Spot}
 use Rattle.check_call.specs.Kept.{StandsFor, is_within_spot}
 use Rattle.check_call.specs.Calls.{spot_in, beside}

@@ -1,6 +1,6 @@
 use Rattle.std.proofs.Common.{◌≡◌, arith, Some, refl, sym, ap, ◌∙◌, subst, length}
 use Rattle.std.proofs.lemmas.Option.{slice_get-get_or}
-use Rattle.check_laws.specs.Spots.{spot}
+use Rattle.check_call.specs.Spots.{spot}
 use Rattle.check_call.specs.declared.call.Call.{Call}
 use Rattle.check_call.specs.declared.spot.Spot.{Spot}
 use Rattle.check_call.specs.Kept.{StandsFor, is_incoming}

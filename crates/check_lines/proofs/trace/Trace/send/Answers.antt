@@ -2,7 +2,7 @@ use Rattle.std.proofs.Common.{◌∙◌, refl, sym, ap, subst}
 use Rattle.std.specs.Option.{option_map}
 use Rattle.homa_plain.specs.declared.id.CallId.{CallId}
 use Rattle.trace_rules.specs.Seen.{in_each, said}
-use Rattle.check_laws.specs.Spots.{only, undo_each, said_spot}
+use Rattle.check_call.specs.Spots.{only, undo_each, said_spot}
 use Rattle.check_lines.specs.Traces.{IsDelivered}
 use Rattle.check_lines.specs.Changes.{Changes, IsMade}
 use Rattle.check_lines.proofs.Readings.{made_kept}

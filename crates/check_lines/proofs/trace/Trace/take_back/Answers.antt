@@ -1,6 +1,6 @@
 use Rattle.std.proofs.lemmas.Result.{on_ok_weaker}
 use Rattle.check_lines.proofs.TakeLaws.{put_back, none_back}
-use Rattle.check_laws.specs.Spots.{spot}
+use Rattle.check_call.specs.Spots.{spot}
 use Rattle.check_lines.proofs.trace.Trace.take_back.Goals as goal
 
 pub returns-in-Some-clause-kept : goal.returns-in-Some-clause-kept

@@ -9,7 +9,7 @@ use Rattle.trace_rules.specs.Seen as seen
 use Rattle.trace_rules.specs.Seen.{begun, delivery}
 use Rattle.trace_rules.specs.View.{View}
 use Rattle.homa_plain.specs.Wire.{Between, packet_in}
-use Rattle.check_laws.specs.Spots.{Undo}
+use Rattle.check_call.specs.Spots.{Undo}
 use Rattle.check_call.specs.Kept.{packet_of}
 use Rattle.check_lines.specs.Changes.{Takes}
 use Rattle.check_lines.specs.Traces.{Keeps}

@@ -5,8 +5,8 @@ use Rattle.homa_plain.specs.Entries.{plain, PlainGaps, PlainFullRows, PlainFullP
 use Rattle.trace_rules.specs.Lines.{is_event}
 use Rattle.trace_rules.specs.Judge.{has_shape, runs_once, is_behind}
 use Rattle.trace_rules.specs.View.{View, Sent, has_run}
-use Rattle.check_laws.specs.Spots.{Undo}
-use Rattle.check_laws.specs.Tested.{IsOther}
+use Rattle.check_call.specs.Spots.{Undo}
+use Rattle.check_call.specs.Tested.{IsOther}
 use Rattle.check_call.specs.declared.packet.Packet.{Packet}
 use Rattle.check_call.specs.Kept.{packet_of}
 use Rattle.check_lines.specs.Changes.{Ready, Takes}

@@ -5,7 +5,7 @@ use Rattle.homa_plain.specs.declared.entry.Entry.{Entry}
 use Rattle.homa_plain.specs.declared.entry.Entry.TheVariants as entry
 use Rattle.homa_plain.specs.Entries.{plain}
 use Rattle.trace_rules.specs.Judge.{has_shape}
-use Rattle.check_laws.specs.Tested.{IsOther}
+use Rattle.check_call.specs.Tested.{IsOther}
 use Rattle.check_lines.specs.Changes.{Takes}
 use Rattle.check_lines.proofs.TakenLaws.{settings_takes}
 use Rattle.check_lines.proofs.trace.Trace.take_line.Goals as goal

@@ -4,7 +4,6 @@
 //! call. No code stands here, only laws; each is the contract of a function that does nothing.
 //! Main promise: a line changes the spots of one call alone, but for a restart. What a block's delivery is taken back
 //! to is one record beside the spots. A message can leave its window only at the call that a line changed.
-#![tactic(auto)]
 
 ghost use Rattle.std.specs.Prelude.{◌≡◌, ◌∷◌, ℕ, List, Option, take, filter, map, false};
 ghost use Rattle.std.specs.List.{list_any};
@@ -18,11 +17,11 @@ ghost use Rattle.trace_rules.specs.View.{View, Sent, has_run, life, has_last};
 ghost use Rattle.trace_rules.specs.Seen.{seen};
 ghost use Rattle.trace_rules.specs.Laws.{answers};
 ghost use Rattle.trace_rules.specs.Granting.{IsWithin};
-ghost use Rattle.check_laws.specs.Spots.{Spot, Undo, spot, delivered_spot, due_spot, IsUndo};
-ghost use Rattle.check_laws.specs.Steps.{line_at, undo_after};
-ghost use Rattle.check_laws.specs.Tested.{IsWithinSpot, to_test, AtCall, IsOther};
-ghost use Rattle.check_laws.specs.Entered.{entered};
-ghost use Rattle.check_laws.specs.Kept.{lean, runs_of, is_here, is_in, AreMade};
+ghost use Rattle.check_call.specs.Spots.{Spot, Undo, spot, delivered_spot, due_spot, IsUndo};
+ghost use Rattle.check_call.specs.Steps.{line_at, undo_after};
+ghost use Rattle.check_call.specs.Tested.{IsWithinSpot, to_test, AtCall, IsOther};
+ghost use Rattle.check_call.specs.Entered.{entered};
+ghost use Rattle.check_call.specs.LeftOut.{lean, runs_of, is_here, is_in, AreMade};
 
 /// What a line does to each call, and to what the block's delivery may be taken back to.
 pub fn lines_change_spots()

@@ -16,9 +16,9 @@ use Rattle.trace_rules.specs.View.{Called, Sent, Ran, Ends, View, life, is_serve
 use Rattle.trace_rules.specs.Laws.{is_run_in, answers}
 use Rattle.trace_rules.specs.Judge.{is_returned}
 use Rattle.homa_plain.proofs.CallOrder.{calls_are}
-use Rattle.check_laws.specs.Spots.{Spot, counted_spot, admitted_spot, delivered_spot, request_spot, response_spot, due_spot, due_with, due_request}
-use Rattle.check_laws.specs.Spots.{due_response}
-use Rattle.check_laws.specs.Kept.{lean, runs_of, is_here, is_in, AreMade}
+use Rattle.check_call.specs.Spots.{Spot, counted_spot, admitted_spot, delivered_spot, request_spot, response_spot, due_spot, due_with, due_request}
+use Rattle.check_call.specs.Spots.{due_response}
+use Rattle.check_call.specs.LeftOut.{lean, runs_of, is_here, is_in, AreMade}
 
 and_assoc : (a b c : Bool) → ((a && b) && c) ≡ (a && (b && c))
 and_assoc true b c = refl

@@ -15,11 +15,11 @@ use Rattle.trace_rules.specs.View.{Called, Sent, Ends, no_ends, Progress, View, 
 use Rattle.trace_rules.specs.Seen.{in_each, begun, is_unknown, is_forgotten, heard, counted, to_server, to_client, admitted, delivered, refused, stale}
 use Rattle.trace_rules.specs.Seen.{is_delivery_to}
 use Rattle.homa_plain.proofs.CallOrder.{call_total, calls_are}
-use Rattle.check_laws.specs.Spots.{Spot, spot, IsEach, only, counts_at, heard_spot, counted_spot, part_with, request_spot, response_spot}
-use Rattle.check_laws.specs.Spots.{admitted_spot, delivered_spot, due_if_refused, due_request, due_response, due_with, due_spot, Undo, IsSame, IsBut}
-use Rattle.check_laws.specs.Spots.{IsUndo, undo_each}
-use Rattle.check_laws.specs.Steps.{undo_of}
-use Rattle.check_laws.proofs.Each.{made, by_field, same_both, resends-insert}
+use Rattle.check_call.specs.Spots.{Spot, spot, IsEach, only, counts_at, heard_spot, counted_spot, part_with, request_spot, response_spot}
+use Rattle.check_call.specs.Spots.{admitted_spot, delivered_spot, due_if_refused, due_request, due_response, due_with, due_spot, Undo, IsSame, IsBut}
+use Rattle.check_call.specs.Spots.{IsUndo, undo_each}
+use Rattle.check_call.specs.Steps.{undo_of}
+use Rattle.check_call.proofs.Each.{made, by_field, same_both, resends-insert}
 
 -- each spot changes by itself
 abbrev Spots : (Progress → Progress) → (CallId → Spot → Spot) → Type 0

@@ -15,10 +15,10 @@ use Rattle.trace_rules.specs.View.{Sent, Progress, View, is_server_of}
 use Rattle.trace_rules.specs.Seen.{seen, begun, delivered, delivery, refused, is_delivery_to}
 use Rattle.trace_rules.specs.Granting.{IsWithinAt, IsWithin}
 use Rattle.homa_plain.proofs.CallOrder.{calls_are}
-use Rattle.check_laws.specs.Spots.{Spot, spot, only, started_spot, finished_spot, dropped_spot, said_spot, restarted_spot, delivered_spot, Undo, IsUndo}
-use Rattle.check_laws.specs.Steps.{unmoved, is_undone, delivered_at, taken_back, undone, refused_at, dropped_at, line_at}
-use Rattle.check_laws.specs.Tested.{IsWithinSpot, to_test, AtCall, IsOther}
-use Rattle.check_laws.proofs.Lines.{line_spot}
+use Rattle.check_call.specs.Spots.{Spot, spot, only, started_spot, finished_spot, dropped_spot, said_spot, restarted_spot, delivered_spot, Undo, IsUndo}
+use Rattle.check_call.specs.Steps.{unmoved, is_undone, delivered_at, taken_back, undone, refused_at, dropped_at, line_at}
+use Rattle.check_call.specs.Tested.{IsWithinSpot, to_test, AtCall, IsOther}
+use Rattle.check_call.proofs.Lines.{line_spot}
 
 module _ (w : ℕ) where
   -- every change that keeps each call within

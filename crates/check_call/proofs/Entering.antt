@@ -5,7 +5,7 @@ use Rattle.std.proofs.lemmas.Bool.{eqb-true, eq-eqb, true≢false}
 use Rattle.plain_sets.specs.Ordered.{is_below, placed, ordered, IsInOrder, not_of, firsts, SendersDiffer}
 use Rattle.plain_sets.proofs.OrderLaws.{ordered-cons, sorted-ordered, above_all}
 use Rattle.plain_sets.proofs.FirstLaws.{firsts-nil, firsts-cons, firsts-differ, sorted-firsts}
-use Rattle.check_laws.specs.Entered.{entered}
+use Rattle.check_call.specs.Entered.{entered}
 
 module _ {X : Type 0} (from : X → ℕ) where
   -- filters of two senders change places

@@ -12,10 +12,10 @@ use Rattle.homa_plain.specs.Calls.{is_host, is_call}
 use Rattle.trace_rules.specs.View.{Sent, Progress, View}
 use Rattle.trace_rules.specs.Seen.{seen, with_line, seen_all, in_each, started, finished, restarted, said, begun, delivered, delivery, refused, stale}
 use Rattle.trace_rules.specs.Seen.{is_delivery_to}
-use Rattle.check_laws.specs.Spots.{Spot, spot, only, said_spot, finished_spot, started_spot, restarted_spot, Undo, IsSame, IsBut, IsUndo, undo_each}
-use Rattle.check_laws.specs.Steps.{unmoved, is_undone, delivered_at, taken_back, undone, refused_at, dropped_at, line_at, undo_of, undo_after}
-use Rattle.check_laws.proofs.Each.{each_started, each_finished, each_said, each_dropped, each_restarted}
-use Rattle.check_laws.proofs.Block.{undo_begun, spot_delivered, undo_delivered, undo_in_each, undo_refused, undo_stale}
+use Rattle.check_call.specs.Spots.{Spot, spot, only, said_spot, finished_spot, started_spot, restarted_spot, Undo, IsSame, IsBut, IsUndo, undo_each}
+use Rattle.check_call.specs.Steps.{unmoved, is_undone, delivered_at, taken_back, undone, refused_at, dropped_at, line_at, undo_of, undo_after}
+use Rattle.check_call.proofs.Each.{each_started, each_finished, each_said, each_dropped, each_restarted}
+use Rattle.check_call.proofs.Block.{undo_begun, spot_delivered, undo_delivered, undo_in_each, undo_refused, undo_stale}
 
 -- the test whether the delivery is taken back
 undone_is : (v : View) (o : Option Undo) (host : HostId) (id : CallId) → IsUndo v o → is_delivery_to v host id ≡ is_undone o host id

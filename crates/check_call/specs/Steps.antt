@@ -8,8 +8,8 @@ use Rattle.homa_plain.specs.Entries.{PlainStale, PlainSend, PlainDone, PlainFail
 use Rattle.homa_plain.specs.Calls.{is_host, is_call}
 use Rattle.trace_rules.specs.View.{Sent, View, is_server_of}
 use Rattle.trace_rules.specs.Seen.{begun, delivery}
-use Rattle.check_laws.specs.Spots.{Spot, spot, only, started_spot, finished_spot, dropped_spot, said_spot, restarted_spot, counted_spot}
-use Rattle.check_laws.specs.Spots.{delivered_spot, due_if_refused, Undo, undo_each}
+use Rattle.check_call.specs.Spots.{Spot, spot, only, started_spot, finished_spot, dropped_spot, said_spot, restarted_spot, counted_spot}
+use Rattle.check_call.specs.Spots.{delivered_spot, due_if_refused, Undo, undo_each}
 
 -- nothing changes
 abbrev pub unmoved : CallId → Spot → Spot

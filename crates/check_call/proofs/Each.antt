@@ -14,8 +14,8 @@ use Rattle.trace_rules.specs.Parts.{Part, Parts, raised, changed, changed_part}
 use Rattle.trace_rules.specs.View.{Sent, Progress, View, own_tick, is_server_of, sent_last, resends_of}
 use Rattle.trace_rules.specs.Seen.{renewed, started, finished, dropped, restarted, said}
 use Rattle.homa_plain.proofs.CallOrder.{call_total, call_same, calls_are}
-use Rattle.check_laws.specs.Spots.{Spot, spot, IsEach, only, renewed_spot, started_spot, finished_spot, dropped_spot, told_spot, raised_request}
-use Rattle.check_laws.specs.Spots.{raised_response, said_spot, restarted_spot}
+use Rattle.check_call.specs.Spots.{Spot, spot, IsEach, only, renewed_spot, started_spot, finished_spot, dropped_spot, told_spot, raised_request}
+use Rattle.check_call.specs.Spots.{raised_response, said_spot, restarted_spot}
 
 -- a spot from its four fields
 pub made : (a b : Spot) → a.live ≡ b.live → a.request ≡ b.request → a.response ≡ b.response → a.resends ≡ b.resends → a ≡ b

@@ -1,5 +1,0 @@
-use Rattle.check_laws.proofs.Lines.{line_spot, line_undo}
-use Rattle.check_laws.proofs.lines_change_spots.Goals as goal
-
-pub returns : goal.returns
-returns c = record { spots = line_spot; undo = line_undo }

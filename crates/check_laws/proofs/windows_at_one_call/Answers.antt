@@ -1,5 +1,0 @@
-use Rattle.check_laws.proofs.Within.{within_line}
-use Rattle.check_laws.proofs.windows_at_one_call.Goals as goal
-
-pub returns : goal.returns
-returns c = within_line
