@@ -5,8 +5,8 @@ TOP = os.path.dirname(os.path.dirname(os.path.realpath(__file__)))
 PICTURE = "docs/pictures/layers.svg"
 DEFINITIONS = ("homa_plain", "trace_rules", "node_runs", "generated_runs")
 # The way of a packet in a replay, from the bytes that come in to the bytes that go out.
-WAY = ("homa_io", "text_lines", "homa_text", "script_lines", "homa_script", "homa_replay", "homa_world", "world_packets", "host_table", "homa_host",
-       "homa_wire", "homa_server", "homa_client", "homa_in", "homa_out", "host_books", "host_state", "host_view", "homa_top", "homa")
+WAY = ("homa_io", "text_lines", "written_lines", "homa_text", "script_lines", "homa_script", "homa_replay", "homa_world", "world_packets", "host_table",
+       "homa_host", "homa_wire", "homa_server", "homa_client", "homa_in", "homa_out", "host_books", "host_state", "host_view", "homa_top", "homa")
 KINDS = {
     "definitions": ("#dbe9f6", "#3a6ea5"),
     "laws, proved and without code": ("#efe6f7", "#8a6aa8"),

@@ -111,9 +111,15 @@ told_by ns skew wire true true len = ap (λ (xs : List ℕ). map decimal xs ++ [
 told_by ns skew wire true false len = ap (λ (xs : List ℕ). map decimal xs ++ decimal skew ∷ []) (thirteen_is ns len)
 told_by ns skew wire false u len = ap (λ (xs : List ℕ). map decimal xs ++ decimal skew ∷ decimal wire ∷ []) (thirteen_is ns len)
 
+-- each number is that of its setting
+numbers_are : (ns : List ℕ) (both : ℕ × ℕ) → length ns ≡ 13 → settings_numbers (with_numbers ns both) ≡ thirteen ns ++ both.0 ∷ both.1 ∷ []
+numbers_are ns both len = ap (λ (xs : List ℕ). settings_numbers (with_numbers xs both)) (sym (thirteen_is ns len))
+
 told_is : (ns : List ℕ) (both : ℕ × ℕ) → length ns ≡ 13
     → map decimal (take (told_numbers (with_numbers ns both)) (settings_numbers (with_numbers ns both))) ≡ map decimal ns ++ map decimal (last_told both)
-told_is ns both len = told_by ns both.0 both.1 (both.1 == 1) (both.0 == 0) len
+told_is ns both len =
+    ap (λ (xs : List ℕ). map decimal (take (told_numbers (with_numbers ns both)) xs)) (numbers_are ns both len)
+    ∙ told_by ns both.0 both.1 (both.1 == 1) (both.0 == 0) len
 
 all_append : (xs ys : List ℕ) → AllByRecursion Small xs → AllByRecursion Small ys → AllByRecursion Small (xs ++ ys)
 all_append [] ys h k = k
@@ -141,7 +147,8 @@ with_told : (words : List (List ℕ)) (ns : List ℕ) (both : ℕ × ℕ) → le
     → words ≡ map decimal ns ++ map decimal (last_told both) → TellsSettings words (with_numbers ns both)
 with_told words ns both len fits s w line = (
   line ∙ sym (told_is ns both len),
-  all_append (thirteen ns) (both.0 ∷ both.1 ∷ []) (subst (AllByRecursion Small) (sym (thirteen_is ns len)) fits) (s, (w, tt)),
+  subst (AllByRecursion Small) (sym (numbers_are ns both len))
+      (all_append (thirteen ns) (both.0 ∷ both.1 ∷ []) (subst (AllByRecursion Small) (sym (thirteen_is ns len)) fits) (s, (w, tt))),
 )
 
 pub settings_takes : (words : List (List ℕ)) (s : Settings) → settings_in words ≡ Some s → TellsSettings words s
@@ -155,7 +162,7 @@ settings_takes words s e =
     subst (TellsSettings words) (some_is (with_numbers a.0.0 b.0) s b.2) (with_told words a.0.0 b.0 first.1.0 first.1.1 last.1.0 last.1.1 line)
 
 abbrev first_numbers : Settings → List ℕ
-first_numbers s = s.hosts ∷ s.seg ∷ s.window ∷ s.unsched ∷ s.overcommit ∷ s.rate ∷ s.resend ∷ s.tries ∷ s.life ∷ s.pages ∷ s.calls ∷ s.served ∷ s.rebalance ∷ []
+first_numbers s = take 13 (settings_numbers s)
 
 pub settings_again : (s : Settings) → AllByRecursion Small (settings_numbers s)
     → settings_in (map decimal (take (told_numbers s) (settings_numbers s))) ≡ Some s

@@ -1,10 +1,13 @@
 -- Entries that are read from the words of a line. No public clause speaks of them: `proofs/EntryLaws.antt` proves that
 -- an entry is read exactly where the line is that of the entry.
-use Rattle.std.specs.Prelude.{ℕ, ◌^◌, ◌==◌, Option, None, Some, List, [], ◌∷◌, codes, slice_index, if◌then◌else◌}
+use Rattle.std.specs.Prelude.{ℕ, ◌^◌, ◌==◌, Option, None, Some, List, [], ◌∷◌, codes, if◌then◌else◌}
+use Rattle.std.specs.List.{fold, zip}
 use Rattle.homa_plain.specs.Bytes.{◌>>=◌}
 use Rattle.homa_plain.specs.declared.id.CallId.{CallId}
 use Rattle.homa_plain.specs.declared.id.HostId.{HostId}
 use Rattle.homa_plain.specs.declared.settings.Settings.{Settings as TheSettings}
+use Rattle.homa_plain.specs.Settings.{usual}
+use Rattle.homa_plain.specs.Script.{names, with_setting}
 use Rattle.homa_plain.specs.Entries.{PlainEntry, PlainSettings, PlainCall, PlainDeliver, PlainClock, PlainRestart, PlainInject, PlainShift, PlainJunk}
 use Rattle.homa_plain.specs.Entries.{PlainStale, PlainSend, PlainRun, PlainDone, PlainFail, PlainDrop, PlainGaps, PlainBury, PlainFree, PlainFullRows}
 use Rattle.homa_plain.specs.Entries.{PlainFullPages, PlainBalance, PlainRecv, PlainFinished, PlainRefused, PlainStalled}
@@ -63,25 +66,9 @@ last_two_in words =
     if is_empty skew.1 then (if skew.0 == 0 then None else Some (skew.0, 1))
     else (number_at (2 ^ 32) skew.1 >>= λ wire. ended (skew.0, wire.0) wire.1 >>= λ both. if both.1 == 1 then None else Some both))
 
--- the settings whose first thirteen numbers these are
+-- the settings whose first thirteen numbers these are, in the order of their names, with this `skew` and this `wire`
 abbrev pub with_numbers : List ℕ → ℕ × ℕ → TheSettings
-with_numbers ns both = record {
-  hosts = slice_index ns 0;
-  seg = slice_index ns 1;
-  window = slice_index ns 2;
-  unsched = slice_index ns 3;
-  overcommit = slice_index ns 4;
-  rate = slice_index ns 5;
-  resend = slice_index ns 6;
-  tries = slice_index ns 7;
-  life = slice_index ns 8;
-  pages = slice_index ns 9;
-  calls = slice_index ns 10;
-  served = slice_index ns 11;
-  rebalance = slice_index ns 12;
-  skew = both.0;
-  wire = both.1;
-}
+with_numbers ns both = record (fold (λ s named. with_setting s named.0 named.1) usual (zip names ns)) { skew = both.0; wire = both.1 }
 
 -- `settings` and 13 to 15 numbers
 unfoldable pub settings_in : List (List ℕ) → Option TheSettings

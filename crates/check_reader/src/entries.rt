@@ -5,7 +5,7 @@ ghost use Rattle.homa_plain.specs.Entries.{PlainEntry, plain};
 ghost use Rattle.homa_plain.specs.Text.{line_text};
 ghost use Rattle.check_words.specs.Fields.{ended};
 ghost use Rattle.check_words.specs.FieldsLeft.{left, size};
-ghost use Rattle.check_reader.specs.Forms.{form_name, form_of, last_two_in, settings_in, call_in, deliver_in, clock_in, restart_in, inject_in};
+ghost use Rattle.check_reader.specs.Forms.{form_name, form_of, last_two_in, with_numbers, settings_in, call_in, deliver_in, clock_in, restart_in, inject_in};
 ghost use Rattle.check_reader.specs.Forms.{shift_in, stale_in, send_in, run_in, done_in, fail_in, drop_in, gaps_in, free_in, bury_in, junk_in};
 ghost use Rattle.check_reader.specs.Forms.{lack_of, lack_in, full_in, balance_in, recv_in, finished_in, refused_in, stalled_in, form_in, entry_of};
 ghost use Rattle.check_reader.specs.Told.{Fits, IsUsual};
@@ -16,7 +16,7 @@ use check_words::{
     Fields, Separator, read_hex, read_host, read_id, read_last_hex, read_role, read_route, read_u8,
     read_u32, read_u64, read_why,
 };
-use homa_plain::{Entry, Settings};
+use homa_plain::{Entry, Name, Settings};
 
 // The first word of a line.
 #[derive(Clone, Copy)]
@@ -138,6 +138,21 @@ fn read_last_two(words: Fields<'_>) -> Option<(u32, u32)>
     if wire == 1 { None } else { Some((skew, wire)) }
 }
 
+// The settings whose first thirteen numbers these are.
+fn with_numbers(numbers: &[u32; 13], skew: u32, wire: u32) -> Settings
+    ensures { result ≡ with_numbers numbers.now (skew, wire) }
+{
+    let mut settings = Settings::usual();
+    for (name, n) in Name::ALL.iter().zip(numbers) {
+        settings.set(*name, *n);
+    }
+    Settings {
+        skew,
+        wire,
+        ..settings
+    }
+}
+
 // The settings: 13 to 15 numbers.
 #[tactic(auto, unfolding(crate::specs::Forms::settings_in))]
 fn read_settings(words: Fields<'_>) -> Option<Settings>
@@ -146,23 +161,7 @@ fn read_settings(words: Fields<'_>) -> Option<Settings>
     let mut numbers = [0; 13];
     let words = read_numbers(words, &mut numbers)?;
     let (skew, wire) = read_last_two(words)?;
-    Some(Settings {
-        hosts: numbers[0],
-        seg: numbers[1],
-        window: numbers[2],
-        unsched: numbers[3],
-        overcommit: numbers[4],
-        rate: numbers[5],
-        resend: numbers[6],
-        tries: numbers[7],
-        life: numbers[8],
-        pages: numbers[9],
-        calls: numbers[10],
-        served: numbers[11],
-        rebalance: numbers[12],
-        skew,
-        wire,
-    })
+    Some(with_numbers(&numbers, skew, wire))
 }
 
 // The entry, where no word is left.

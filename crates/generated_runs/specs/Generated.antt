@@ -5,10 +5,10 @@ use Rattle.std.specs.Fmt.{decimal}
 use Rattle.homa_plain.specs.declared.settings.Settings.{Settings}
 use Rattle.homa_plain.specs.declared.event.Event.{Event}
 use Rattle.homa_plain.specs.declared.event.Event.TheVariants as event
-use Rattle.homa_plain.specs.declared.packet.Body.{Body}
-use Rattle.homa_plain.specs.declared.packet.Body.TheVariants as body
+use Rattle.homa_plain.specs.declared.packet.Kind.{Kind}
 use Rattle.homa_plain.specs.declared.entry.Why.TheVariants.{Timeout, Forgotten}
 use Rattle.homa_plain.specs.Settings.{usual}
+use Rattle.homa_plain.specs.Kinds.{kinds, body_kind, kind_number, kind_name}
 use Rattle.homa_plain.specs.Entries.{PlainEntry, PlainCall, PlainDeliver, PlainClock, PlainSend, PlainRun, PlainDone, PlainFail}
 use Rattle.homa_plain.specs.Rules.{Answer}
 use Rattle.homa_plain.specs.Script.{Given, GivenEvent, GivenTicks, event_text, settings_text}
@@ -85,27 +85,16 @@ abbrev pub is_call : PlainEntry → Bool
 is_call (PlainCall id server service bytes) = true
 is_call e = false
 
--- the number of a packet's kind, in the order of the summary
-abbrev pub kind_number : Body → ℕ
-kind_number (body.Data size offset version service ack) = 0
-kind_number (body.Grant offset prio) = 1
-kind_number (body.Resend from to prio) = 2
-kind_number body.Busy = 3
-kind_number (body.Cutoffs cutoffs) = 4
-kind_number (body.Unknown reason) = 5
-kind_number body.NeedAck = 6
-kind_number (body.Ack more) = 7
-
--- a `send` line of a packet whose kind has this number
-abbrev pub is_kind : ℕ → PlainEntry → Bool
-is_kind n (PlainSend number from to inc role id level what payload) = kind_number what == n
-is_kind n e = false
+-- a `send` line of a packet of this kind
+abbrev pub is_kind : Kind → PlainEntry → Bool
+is_kind kind (PlainSend number from to inc role id level what payload) = kind_number (body_kind what) == kind_number kind
+is_kind kind e = false
 
 -- a count with its name, as a line
 abbrev pub summary_line : List ℕ → ℕ → List ℕ
 summary_line name n = line_of_words (name ∷ decimal n ∷ [])
 
--- the counts of the lines of a trace, each with its name
+-- the counts of the lines of a trace, each with its name: those of packets stand last, kind by kind
 abbrev pub summary_text : List PlainEntry → List ℕ
 summary_text told =
     summary_line (codes "calls") (count_of is_call told)
@@ -115,11 +104,4 @@ summary_text told =
     ++ summary_line (codes "forgotten") (count_of is_forgotten told)
     ++ summary_line (codes "deliver") (count_of is_deliver told)
     ++ summary_line (codes "clock") (count_of is_clock told)
-    ++ summary_line (codes "DATA") (count_of (is_kind 0) told)
-    ++ summary_line (codes "GRANT") (count_of (is_kind 1) told)
-    ++ summary_line (codes "RESEND") (count_of (is_kind 2) told)
-    ++ summary_line (codes "BUSY") (count_of (is_kind 3) told)
-    ++ summary_line (codes "CUTOFFS") (count_of (is_kind 4) told)
-    ++ summary_line (codes "UNKNOWN") (count_of (is_kind 5) told)
-    ++ summary_line (codes "NEED_ACK") (count_of (is_kind 6) told)
-    ++ summary_line (codes "ACK") (count_of (is_kind 7) told)
+    ++ flat_map (λ kind. summary_line (kind_name kind) (count_of (is_kind kind) told)) kinds

@@ -4,7 +4,7 @@ ghost use Rattle.homa_io.specs.Writing.{IsWritten};
 
 use crate::verdict::Verdict;
 use homa_io::{Sink, WriteFailed};
-use homa_text::{Word, put_line};
+use written_lines::{Word, put_line};
 
 /// Writes the line of a verdict: `yes` and how many lines there are; or `no`, the line's number from 1, and the word of the
 /// clause. After an error the sink took a prefix of the line.

@@ -1,10 +1,13 @@
 -- The counts of a trace are those of its summary.
-use Rattle.std.proofs.Common.{◌≡◌, ℕ, ◌+◌, Bool, true, false, List, [], ◌∷◌, ◌++◌, length, filter, refl, sym, ap, ◌∙◌, append_assoc, length-append, add-zero}
+use Rattle.std.proofs.Common.{◌≡◌, ℕ, ◌+◌, Bool, true, false, List, [], ◌∷◌, ◌++◌, length, filter, map, refl, sym, ap, ◌∙◌, append_assoc, length-append}
+use Rattle.std.proofs.Common.{add-zero}
 use Rattle.std.specs.Prelude.{codes}
+use Rattle.std.specs.List.{flat_map}
 use Rattle.std.proofs.lemmas.List.{append-nil}
 use Rattle.std.proofs.lemmas.List.Elements.{filter-append}
 use Rattle.homa_plain.specs.declared.packet.Body.TheVariants as body
 use Rattle.homa_plain.specs.declared.entry.Why.TheVariants.{Timeout, Forgotten}
+use Rattle.homa_plain.specs.Kinds.{kinds, kind_name}
 use Rattle.homa_plain.specs.Entries.{PlainEntry, PlainSettings, PlainCall, PlainDeliver, PlainClock, PlainRestart, PlainInject, PlainShift, PlainJunk}
 use Rattle.homa_plain.specs.Entries.{PlainStale, PlainSend, PlainRun, PlainDone, PlainFail, PlainDrop, PlainGaps, PlainBury, PlainFree, PlainFullRows}
 use Rattle.homa_plain.specs.Entries.{PlainFullPages, PlainBalance, PlainRecv, PlainFinished, PlainRefused, PlainStalled}
@@ -29,38 +32,17 @@ count_more is a e = ap length (filter-append is a (e ∷ [])) ∙ length-append 
 abbrev numbers : List PlainEntry → List ℕ
 numbers told =
     count_of is_call told ∷ count_of is_run told ∷ count_of is_done told ∷ count_of is_timeout told ∷ count_of is_forgotten told ∷
-    count_of is_deliver told ∷ count_of is_clock told ∷
-    count_of (is_kind 0) told ∷ count_of (is_kind 1) told ∷ count_of (is_kind 2) told ∷ count_of (is_kind 3) told ∷ count_of (is_kind 4) told ∷
-    count_of (is_kind 5) told ∷ count_of (is_kind 6) told ∷ count_of (is_kind 7) told ∷ []
+    count_of is_deliver told ∷ count_of is_clock told ∷ map (λ kind. count_of (is_kind kind) told) kinds
 
 abbrev numbers_with : List PlainEntry → PlainEntry → List ℕ
 numbers_with told e =
     more_if (is_call e) (count_of is_call told) ∷ more_if (is_run e) (count_of is_run told) ∷ more_if (is_done e) (count_of is_done told) ∷ more_if
     (is_timeout e) (count_of is_timeout told) ∷ more_if (is_forgotten e) (count_of is_forgotten told) ∷ more_if (is_deliver e)
     (count_of is_deliver told) ∷ more_if (is_clock e) (count_of is_clock told) ∷
-    more_if (is_kind 0 e) (count_of (is_kind 0) told) ∷ more_if (is_kind 1 e) (count_of (is_kind 1) told) ∷ more_if (is_kind 2 e)
-    (count_of (is_kind 2) told) ∷ more_if (is_kind 3 e) (count_of (is_kind 3) told) ∷ more_if (is_kind 4 e) (count_of (is_kind 4) told) ∷ more_if
-    (is_kind 5 e) (count_of (is_kind 5) told) ∷ more_if (is_kind 6 e) (count_of (is_kind 6) told) ∷ more_if (is_kind 7 e) (count_of (is_kind 7) told) ∷ []
+    map (λ kind. more_if (is_kind kind e) (count_of (is_kind kind) told)) kinds
 
 numbers_more : (a : List PlainEntry) (e : PlainEntry) → numbers (a ++ e ∷ []) ≡ numbers_with a e
-numbers_more a e =
-    rw (
-      count_more is_call a e,
-      count_more is_run a e,
-      count_more is_done a e,
-      count_more is_timeout a e,
-      count_more is_forgotten a e,
-      count_more is_deliver a e,
-      count_more is_clock a e,
-      count_more (is_kind 0) a e,
-      count_more (is_kind 1) a e,
-      count_more (is_kind 2) a e,
-      count_more (is_kind 3) a e,
-      count_more (is_kind 4) a e,
-      count_more (is_kind 5) a e,
-      count_more (is_kind 6) a e,
-      count_more (is_kind 7) a e,
-    ) refl
+numbers_more a e = simp count_more refl
 
 placed : (a : List PlainEntry) (e : PlainEntry) → one_more (numbers a) (kind_of e) ≡ numbers_with a e
 placed a (PlainCall id server service bytes) = refl
@@ -101,11 +83,9 @@ counted_from a [] = ap numbers (sym (append-nil a))
 counted_from a (e ∷ b) =
     ap (λ (l : List ℕ). counted l b) (placed a e ∙ sym (numbers_more a e)) ∙ counted_from (a ++ e ∷ []) b ∙ ap numbers (append_assoc a (e ∷ []) b)
 
--- fifteen texts one behind the other
-fifteen : (a b c d e f g h i j k l m n o : List ℕ)
-    → a ++ (b ++ (c ++ (d ++ (e ++ (f ++ (g ++ (h ++ (i ++ (j ++ (k ++ (l ++ (m ++ (n ++ (o ++ [])))))))))))))) ≡ a ++ b ++ c ++ d ++ e ++ f ++ g ++ h
-    ++ i ++ j ++ k ++ l ++ m ++ n ++ o
-fifteen a b c d e f g h i j k l m n o = simp (append_assoc, append-nil)
+-- eight texts one behind the other
+eight : (a b c d e f g h : List ℕ) → a ++ (b ++ (c ++ (d ++ (e ++ (f ++ (g ++ h)))))) ≡ a ++ b ++ c ++ d ++ e ++ f ++ g ++ h
+eight a b c d e f g h = simp append_assoc
 
 line_of : List ℕ → (PlainEntry → Bool) → List PlainEntry → List ℕ
 line_of name is told = summary_line name (count_of is told)
@@ -113,12 +93,9 @@ line_of name is told = summary_line name (count_of is told)
 text_of_numbers : (told : List PlainEntry) → counts_text (numbers told) ≡ summary_text told
 unfolding line_of
 text_of_numbers told =
-    fifteen (line_of (codes "calls") is_call told) (line_of (codes "runs") is_run told) (line_of (codes "done") is_done told)
+    eight (line_of (codes "calls") is_call told) (line_of (codes "runs") is_run told) (line_of (codes "done") is_done told)
     (line_of (codes "timeout") is_timeout told) (line_of (codes "forgotten") is_forgotten told) (line_of (codes "deliver") is_deliver told)
-    (line_of (codes "clock") is_clock told)
-    (line_of (codes "DATA") (is_kind 0) told) (line_of (codes "GRANT") (is_kind 1) told) (line_of (codes "RESEND") (is_kind 2) told)
-    (line_of (codes "BUSY") (is_kind 3) told) (line_of (codes "CUTOFFS") (is_kind 4) told) (line_of (codes "UNKNOWN") (is_kind 5) told)
-    (line_of (codes "NEED_ACK") (is_kind 6) told) (line_of (codes "ACK") (is_kind 7) told)
+    (line_of (codes "clock") is_clock told) (flat_map (λ kind. line_of (kind_name kind) (is_kind kind) told) kinds)
 
 -- what was counted of a trace is its summary
 pub summary_counted : (told : List PlainEntry) → counts_text (counted no_counts told) ≡ summary_text told

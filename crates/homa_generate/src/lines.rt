@@ -20,10 +20,11 @@ use homa_io::{Sink, WriteFailed, write_all};
 use homa_plain::{Entry, Event};
 use homa_replay::{ReplayWorld, Stop};
 use homa_script::put_event;
-use homa_text::Word::{Host, Number, Text};
-use homa_text::{put_entry, put_line};
+use homa_text::put_entry;
 use itoa::Buffer;
 use std::alloc::AllocError;
+use written_lines::Word::{Host, Number, Text};
+use written_lines::put_line;
 
 /// A line of a generated schedule.
 #[derive(Clone, Copy)]

@@ -4,8 +4,8 @@ ghost use Rattle.homa_plain.specs.Script.{counting};
 ghost use Rattle.homa_plain.specs.Settings.{IsValid};
 
 use homa_plain::Settings;
-use homa_text::counting_bytes;
 use std::alloc::{AllocError, Global};
+use text_lines::counting_bytes;
 
 /// The most bytes of a request.
 const MOST_BYTES: u32 = 100_000;

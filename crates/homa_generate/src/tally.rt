@@ -5,11 +5,11 @@ ghost use Rattle.homa_generate.specs.Counts.{IsFullOf, kinds, name, place, one_m
 
 use homa_io::{Sink, WriteFailed};
 use homa_plain::Kind;
-use homa_text::Word::{Number, Text};
-use homa_text::put_line;
 use homa_world::LineKind;
 use std::alloc::AllocError;
 use std::marker::Model;
+use written_lines::Word::{Number, Text};
+use written_lines::put_line;
 
 // How many kinds of lines are counted.
 const COUNT: usize = 15;

@@ -22,7 +22,7 @@ use Rattle.homa_io.specs.declared.sink.WriteFailed.{WriteFailed}
 use Rattle.homa_io.specs.Outside.{HasRisen}
 use Rattle.homa_io.specs.Growing.{appended-appended}
 use Rattle.homa_io.proofs.Fronts.{front_after}
-use Rattle.homa_text.proofs.Putting.{front_more}
+use Rattle.written_lines.proofs.Putting.{front_more}
 use Rattle.node_io.specs.declared.observer.SeenFault.{SeenFault}
 use Rattle.node_io.specs.declared.observer.SeenFault.TheVariants.{Write, Stranger}
 use Rattle.homa_record.specs.Seen.{texts, kind_text, strange_answer, dated, Sees}

@@ -14,10 +14,10 @@ use crate::book::{Book, Kind};
 use homa_io::{Sink, WriteFailed};
 use homa_plain::{CallId, Entry, Event, HostId, Packet, Settings};
 use homa_script::{put_event, put_settings};
-use homa_text::Word::{Hex, Host, Text};
-use homa_text::put_line;
 use node_io::{NoMemory, Observer, SeenFault};
 use std::alloc::Global;
+use written_lines::Word::{Hex, Host, Text};
+use written_lines::put_line;
 
 // Writes so many ticks of the clock, one by one.
 fn put_clocks<K: Sink>(sink: &mut K, n: u64) -> Result<(), WriteFailed>

@@ -4,7 +4,7 @@ use Rattle.std.specs.List.{flat_map}
 use Rattle.std.proofs.lemmas.List.{append-nil}
 use Rattle.homa_io.specs.Outside.{appended, TookFront}
 use Rattle.homa_io.proofs.Parts.{appended-appended}
-use Rattle.homa_text.proofs.Texts.{flat_map-split, flat_map-more}
+use Rattle.written_lines.proofs.Texts.{flat_map-split, flat_map-more}
 
 pub nothing_appended : (old : Option (List ℕ)) → old ≡ appended old []
 nothing_appended None = refl

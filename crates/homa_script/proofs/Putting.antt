@@ -12,8 +12,8 @@ use Rattle.homa_plain.specs.Text.{settings_numbers, told_numbers}
 use Rattle.homa_plain.specs.Script.{names, setting_text, settings_text}
 use Rattle.homa_script.specs.Named.{named_text}
 use Rattle.homa_io.proofs.Fronts.{front_after}
-use Rattle.homa_text.proofs.Putting.{front_more}
-use Rattle.homa_text.proofs.Texts.{flat_map-split}
+use Rattle.written_lines.proofs.Putting.{front_more}
+use Rattle.written_lines.proofs.Texts.{flat_map-split}
 
 -- a front of the next line was taken
 pub took_line : {X : Type 0} (f : X → List ℕ) (xs : List X) (i : ℕ) (d : X) (old mid new : Option (List ℕ)) → i < length xs

@@ -6,11 +6,12 @@ ghost use Rattle.homa_script.specs.Named.{named_text};
 
 use homa_io::{Sink, WriteFailed};
 use homa_plain::{Event, Name, Settings};
-use homa_text::Word::{Hex, Host, Number, Text};
-use homa_text::{put_line, told_settings};
+use text_lines::told_settings;
+use written_lines::Word::{Hex, Host, Number, Text};
+use written_lines::put_line;
 
 /// Writes the line of an event, with these bytes where it is a call or an injection, as `put_line`
-/// of `homa_text` does. After an error the sink took a front of the line.
+/// of `written_lines` does. After an error the sink took a front of the line.
 #[tactic(auto, unfolding(homa_plain::specs::Script::event_text))]
 pub fn put_event<K: Sink>(sink: &mut K, event: &Event, bytes: &[u8]) -> Result<(), WriteFailed>
     ensures { IsWritten K.taken K.faults K.is_same result sink.old sink.new (event_text event.now bytes.now) }

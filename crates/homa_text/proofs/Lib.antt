@@ -1,4 +1,2 @@
-pub mod Putting
-pub mod Texts
+pub mod Calls
 pub mod LineParts
-pub mod Parts

@@ -1,5 +1,5 @@
 -- The lines of packets, by the parts that are added one after another.
-use Rattle.std.proofs.Common.{◌≡◌, ◌<◌, ℕ, length, List, [], ◌∷◌, ◌++◌, codes, decimal, refl, ap, sym, ◌∙◌, append_assoc}
+use Rattle.std.proofs.Common.{◌≡◌, ◌<◌, ℕ, arith, length, List, [], ◌∷◌, ◌++◌, codes, decimal, refl, ap, sym, ◌∙◌, append_assoc}
 use Rattle.std.specs.List.{join_with_byte}
 use Rattle.homa_plain.specs.Entries.{PlainCall, PlainInject, PlainRun, PlainDone, PlainBury, PlainFree}
 use Rattle.homa_plain.specs.Text.{line_text, line_of_words, hex_word, route_word, role_word, id_word, ack_word, kind_word, body_words}
@@ -9,12 +9,7 @@ use Rattle.homa_plain.specs.declared.id.HostId.{HostId}
 use Rattle.homa_text.specs.declared.frequent_lines.Head.{Head}
 use Rattle.homa_text.specs.declared.frequent_lines.Piece.{Piece}
 use Rattle.hex.specs.Hex.{encode_lower}
-use Rattle.homa_text.proofs.Texts.{hex_word-some}
 use Rattle.homa_text.specs.FrequentLines.{head_text, piece_text, grant_sent, piece_sent, packet_sent, spaced_text}
-
--- a part that is added behind the parts so far
-pub part_on : (i j old d e all : List ℕ) → i ≡ old ++ d → j ≡ i ++ e → d ++ e ≡ all → j ≡ old ++ all
-part_on i j old d e all f g h = g ∙ (ap (λ (l : List ℕ). l ++ e) f ∙ (append_assoc old d e ∙ ap (λ (l : List ℕ). old ++ l) h))
 
 -- three parts that were added to nothing
 pub three : (i0 i1 i2 i3 x y z : List ℕ) → i0 ≡ [] → i1 ≡ i0 ++ x → i2 ≡ i1 ++ y → i3 ≡ i2 ++ z → i3 ≡ x ++ (y ++ z)
@@ -88,6 +83,11 @@ piece_line_text head piece payload =
     (decimal head.number ∷ route_word head.from head.to ∷ decimal head.inc ∷ codes "DATA" ∷ role_word head.role ∷ id_word head.id ∷
     decimal piece.level ∷ decimal piece.size ∷ decimal piece.offset ∷ decimal piece.version ∷ decimal piece.service ∷ ack_word piece.ack ∷
     hex_word payload ∷ [])))
+
+-- the hex of some bytes has no hyphen
+hex_word-some : (xs : List ℕ) → 0 < length xs → hex_word xs ≡ encode_lower xs
+hex_word-some [] h = absurd (omega arith)
+hex_word-some (x ∷ xs) h = refl
 
 -- the line of a piece that has bytes, by its numbers, its digits and the line feed
 pub long_line_text : (head : Head) (piece : Piece) (payload : List ℕ) → 0 < length payload

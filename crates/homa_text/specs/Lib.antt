@@ -1,4 +1,1 @@
-pub mod Written
-pub mod Put
 pub mod FrequentLines
-pub mod Turns

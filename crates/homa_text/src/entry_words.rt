@@ -5,13 +5,13 @@ ghost use Rattle.homa_plain.specs.Entries.{plain};
 ghost use Rattle.homa_plain.specs.Settings.{setting};
 ghost use Rattle.homa_plain.specs.Text.{settings_words, cutoffs_words, call_word, host_word, id_word, hex_word, fault_words, ack_word, role_word};
 ghost use Rattle.homa_plain.specs.Text.{body_words, why_word, entry_words};
-ghost use Rattle.homa_text.specs.Written.{word_text};
+ghost use Rattle.written_lines.specs.Written.{word_text};
 
-use crate::Word::{self, Call, Hex, Host, Id, Number, Route, Text};
 use crate::fault_words::push_fault;
 use arrayvec::ArrayVec;
 use homa_plain::{Body, CallId, Cutoffs, Entry, HostId, LineFault, Name, Role, Settings, Why};
 use text_lines::told_settings;
+use written_lines::Word::{self, Call, Hex, Host, Id, Number, Route, Text};
 
 // The words of a line; no entry has more than sixteen.
 pub(crate) type WordList<'a> = ArrayVec<Word<'a>, 16>;

@@ -2,12 +2,12 @@
 ghost use Rattle.std.specs.Prelude.{◌≡◌, ◌≤◌, [], ◌∷◌, ◌++◌, map, decimal};
 ghost use Rattle.arrayvec.specs.ArrayVec.{array_vec_len};
 ghost use Rattle.homa_plain.specs.Text.{name_word, start_word, setting_words, script_words, world_words, fault_words};
-ghost use Rattle.homa_text.specs.Written.{word_text};
+ghost use Rattle.written_lines.specs.Written.{word_text};
 
-use crate::Word::{self, Number, Text};
 use crate::entry_words::{WordList, push_all};
 use homa_plain::{LineFault, Name, ScriptFault, SettingFault, StartFault, WorldFault};
 use text_lines::start_bytes;
+use written_lines::Word::{self, Number, Text};
 
 // The name of a setting.
 fn name_text(name: Name) -> Word<'static>

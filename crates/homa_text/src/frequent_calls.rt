@@ -4,10 +4,10 @@ ghost use Rattle.homa_plain.specs.Text.{host_word, id_word, hex_word, line_text}
 ghost use Rattle.homa_plain.specs.Entries.{PlainCall, PlainInject, PlainJunk, PlainRun, PlainDone, PlainBury, PlainFree};
 ghost use Rattle.arrayvec.specs.ArrayVec.{array_vec_len};
 
-use crate::adding::{add, add_number};
 use crate::frequent_lines::{ShortLine, add_bytes, add_id, add_spaced};
 use arrayvec::ArrayVec;
 use homa_plain::{CallId, HostId};
+use written_lines::{add, add_number};
 
 // Adds a space and a host.
 #[inline(always)]

@@ -6,9 +6,9 @@ ghost use Rattle.homa_plain.specs.Entries.{PlainClock, PlainDeliver};
 ghost use Rattle.homa_text.specs.FrequentLines.{head_text, numbers_text, piece_text, grant_sent, piece_sent, packet_sent, spaced_text, IsBare};
 ghost use Rattle.arrayvec.specs.ArrayVec.{array_vec_len};
 
-use crate::adding::{add, add_hex, add_number};
 use arrayvec::ArrayVec;
 use homa_plain::{Body, CallId, HostId, Role};
+use written_lines::{add, add_hex, add_number};
 
 /// Room for a line of words without bytes.
 pub(crate) type ShortLine = ArrayVec<u8, 256>;

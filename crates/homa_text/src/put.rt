@@ -1,17 +1,11 @@
-// Lines that are written: the frequent ones at once, any other word by word through a buffer.
-ghost use Rattle.std.specs.Prelude.{◌≡◌, ◌≤◌, ◌<◌, ◌+◌, ◌++◌, ◌∷◌, [], true, length, map, OnOk};
-ghost use Rattle.std.specs.List.{flat_map};
-ghost use Rattle.hex.specs.Hex.{encode_lower};
+// Lines of entries that are written: the frequent ones at once, any other word by word.
+ghost use Rattle.std.specs.Prelude.{◌≡◌, ◌≤◌, ◌<◌, ◌+◌, [], true, length};
 ghost use Rattle.homa_io.specs.Writing.{IsWritten};
 ghost use Rattle.homa_plain.specs.Entries.{PlainCall, PlainInject, PlainRun, PlainDone, plain};
-ghost use Rattle.homa_plain.specs.Text.{line_of_words, line_text};
-ghost use Rattle.homa_text.specs.Put.{Puts};
+ghost use Rattle.homa_plain.specs.Text.{line_text};
 ghost use Rattle.homa_text.specs.FrequentLines.{grant_sent, piece_sent, packet_sent, IsBare};
 ghost use Rattle.homa_plain.specs.Told.{HasLine};
-ghost use Rattle.homa_text.specs.Written.{word_text, spaced_word};
 
-use crate::Word;
-use crate::adding::write_digits;
 use crate::entry_words::words_of_entry;
 use crate::frequent_calls::{
     bury_line, call_line, done_line, free_line, inject_line, junk_line, run_line,
@@ -20,22 +14,16 @@ use crate::frequent_lines::{
     Head, Piece, ShortLine, bare_line, clock_line, deliver_line, grant_line, piece_line,
     piece_numbers,
 };
-use crate::written::{call_text, id_text, number_text, route_text};
 use arrayvec::ArrayVec;
 use homa_io::{Sink, WriteFailed, write_all};
 use homa_plain::{Body, CallId, Entry, HostId};
-
-// How many bytes of a line of words are held before a write.
-const TINY: usize = 256;
+use written_lines::{Held, append, put_hex, put_line};
 
 // Room for the line of an entry of few bytes.
 const SMALL: usize = 1024;
 
 // Room for the numbers of a piece.
 const NUMBERS: usize = 512;
-
-// How many bytes are made to digits between two writes.
-const PART: usize = 1408;
 
 // The most bytes of a piece whose line is made at once.
 const MOST_PAYLOAD: usize = 1400;
@@ -45,151 +33,6 @@ const FEW: usize = 350;
 
 // Room for the line of few bytes.
 type FewLine = ArrayVec<u8, SMALL>;
-
-// The bytes of a line that aren't written yet.
-type Held<const N: usize> = ArrayVec<u8, N>;
-
-// Writes what is held.
-fn flush<K: Sink, const N: usize>(sink: &mut K, held: &mut Held<N>) -> Result<(), WriteFailed>
-    ensures written { IsWritten K.taken K.faults K.is_same result sink.old sink.new held.old.items }
-    ensures empty { OnOk result (held.new.items ≡ []) }
-{
-    write_all(sink, held.as_slice())?;
-    held.clear();
-    Ok(())
-}
-
-// Holds these bytes too. What was held is written first where they don't fit.
-fn append<K: Sink, const N: usize>(
-    sink: &mut K,
-    held: &mut Held<N>,
-    bytes: &[u8],
-) -> Result<(), WriteFailed>
-    ensures { Puts K.taken K.faults K.is_same result sink.old sink.new held.new.items (held.old.items ++ bytes.now) }
-{
-    if bytes.len() <= held.remaining_capacity() {
-        held.try_extend_from_slice(bytes).unwrap();
-        return Ok(());
-    }
-    flush(sink, held)?;
-    if bytes.len() > N {
-        return write_all(sink, bytes);
-    }
-    held.try_extend_from_slice(bytes).unwrap();
-    Ok(())
-}
-
-// Holds a few bytes in hex, or writes them after what was held. Their digits are made in room that is lent.
-fn put_digits<K: Sink, const N: usize>(
-    sink: &mut K,
-    held: &mut Held<N>,
-    bytes: &[u8],
-    digits: &mut [u8],
-) -> Result<(), WriteFailed>
-    requires few { length bytes.now ≤ 1408 }
-    requires room { length digits.old ≡ 2816 }
-    ensures put { Puts K.taken K.faults K.is_same result sink.old sink.new held.new.items (held.old.items ++ encode_lower bytes.now) }
-    ensures room { length digits.new ≡ length digits.old }
-{
-    let out = &mut digits[..2 * bytes.len()];
-    write_digits(bytes, out);
-    if bytes.len() < 64 {
-        return append(sink, held, out);
-    }
-    flush(sink, held)?;
-    write_all(sink, out)
-}
-
-// Holds bytes in hex, a few at a time. The room for their digits is filled with zeros once, not for each part.
-fn put_hex<K: Sink, const N: usize>(
-    sink: &mut K,
-    held: &mut Held<N>,
-    bytes: &[u8],
-) -> Result<(), WriteFailed>
-    ensures { Puts K.taken K.faults K.is_same result sink.old sink.new held.new.items (held.old.items ++ encode_lower bytes.now) }
-{
-    let mut digits = [0; 2 * PART];
-    let mut done = 0;
-    while done < bytes.len() {
-        let n = (bytes.len() - done).min(PART);
-        put_digits(sink, held, &bytes[done..done + n], &mut digits)?;
-        done += n;
-    }
-    Ok(())
-}
-
-// Holds one word of a line.
-fn put_word<K: Sink, const N: usize>(
-    sink: &mut K,
-    held: &mut Held<N>,
-    word: Word<'_>,
-) -> Result<(), WriteFailed>
-    ensures { Puts K.taken K.faults K.is_same result sink.old sink.new held.new.items (held.old.items ++ word_text word.entry) }
-{
-    match word {
-        Word::Text(bytes) => append(sink, held, bytes),
-        Word::Hex([]) => append(sink, held, b"-"),
-        Word::Hex(bytes) => put_hex(sink, held, bytes),
-        Word::Number(n) => append(sink, held, number_text(n).as_slice()),
-        Word::Host(host) => append(sink, held, number_text(u64::from(host.0)).as_slice()),
-        Word::Id(id) => append(sink, held, id_text(id).as_slice()),
-        Word::Route(from, to) => append(sink, held, route_text(from, to).as_slice()),
-        Word::Call(inc, seq) => append(sink, held, call_text(inc, seq).as_slice()),
-    }
-}
-
-// Holds a word after a space.
-fn put_spaced<K: Sink, const N: usize>(
-    sink: &mut K,
-    held: &mut Held<N>,
-    word: Word<'_>,
-) -> Result<(), WriteFailed>
-    ensures { Puts K.taken K.faults K.is_same result sink.old sink.new held.new.items (held.old.items ++ spaced_word word.entry) }
-{
-    append(sink, held, b" ")?;
-    put_word(sink, held, word)
-}
-
-// Holds words, each after a space.
-fn put_others<K: Sink, const N: usize>(
-    sink: &mut K,
-    held: &mut Held<N>,
-    words: &[Word<'_>],
-) -> Result<(), WriteFailed>
-    ensures { Puts K.taken K.faults K.is_same result sink.old sink.new held.new.items (held.old.items ++ flat_map spaced_word words.now) }
-{
-    for word in words {
-        put_spaced(sink, held, *word)?;
-    }
-    Ok(())
-}
-
-// Writes a word, words after it and a line feed.
-fn put_words<K: Sink, const N: usize>(
-    sink: &mut K,
-    held: &mut Held<N>,
-    first: Word<'_>,
-    others: &[Word<'_>],
-) -> Result<(), WriteFailed>
-    requires { held.old.items ≡ [] }
-    ensures { IsWritten K.taken K.faults K.is_same result sink.old sink.new (line_of_words (word_text first.entry ∷ map word_text others.now)) }
-{
-    put_word(sink, held, first)?;
-    put_others(sink, held, others)?;
-    append(sink, held, b"\n")?;
-    write_all(sink, held.as_slice())
-}
-
-/// Writes words with one space between two, and a line feed. This is one `write`, unless a word of bytes in hex is
-/// longer than 128 digits, the words than 256 bytes, or the sink takes only a part. After an error it took a prefix.
-pub fn put_line<K: Sink>(sink: &mut K, words: &[Word<'_>]) -> Result<(), WriteFailed>
-    ensures { IsWritten K.taken K.faults K.is_same result sink.old sink.new (line_of_words (map word_text words.now)) }
-{
-    match words {
-        [] => write_all(sink, b"\n"),
-        [first, others @ ..] => put_words(sink, &mut Held::<TINY>::new(), *first, others),
-    }
-}
 
 // Writes the line of an entry, word by word.
 fn put_words_of<K: Sink>(sink: &mut K, entry: &Entry<'_>) -> Result<(), WriteFailed>
@@ -443,8 +286,8 @@ fn put_packet<K: Sink>(
     }
 }
 
-/// Writes the line of an entry, as `put_line` does. Out of memory is the entry of no line, so no entry of
-/// that is handed in.
+/// Writes the line of an entry, as `put_line` of `written_lines` does. Out of memory is the entry of no line, so no entry
+/// of that is handed in.
 pub fn put_entry<K: Sink>(sink: &mut K, entry: &Entry<'_>) -> Result<(), WriteFailed>
     requires { HasLine (plain entry.now) }
     ensures { IsWritten K.taken K.faults K.is_same result sink.old sink.new (line_text (plain entry.now)) }

@@ -5,7 +5,7 @@ ghost use Rattle.homa_top.specs.declared.words.Command.{Command};
 ghost use Rattle.homa_top.specs.Words.{number_within, seeded, sized, numbered, command_of, said};
 
 use homa_plain::LONGEST_MESSAGE;
-use homa_text::read_number;
+use text_lines::read_number;
 
 /// A command, with the numbers of its words.
 #[derive(Clone, Copy, Debug, PartialEq, Eq)]

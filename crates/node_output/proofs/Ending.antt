@@ -5,7 +5,7 @@ use Rattle.std.specs.Option.{option_map}
 use Rattle.std.proofs.lemmas.List.{append-nil}
 use Rattle.homa_io.specs.Outside.{HasRisen, appended, TookFront}
 use Rattle.homa_io.proofs.Fronts.{two_put, front_after}
-use Rattle.homa_text.proofs.Putting.{front_more}
+use Rattle.written_lines.proofs.Putting.{front_more}
 use Rattle.homa_plain.specs.Entries.{PlainEntry}
 use Rattle.homa_plain.specs.Rules.{Answer}
 use Rattle.homa_plain.specs.declared.fault.LineFault.TheVariants.{Script as ByWords, World as ByWorld}

@@ -7,7 +7,7 @@ use Rattle.homa_plain.specs.Entries.{PlainEntry}
 use Rattle.homa_plain.specs.Text.{line_text}
 use Rattle.homa_plain.specs.declared.fault.LineFault.TheVariants.{Script as ByWords, World as ByWorld}
 use Rattle.homa_plain.specs.declared.fault.WorldFault.TheVariants.{NoSuchHost, Start as CantStart}
-use Rattle.homa_text.proofs.Putting.{front_more}
+use Rattle.written_lines.proofs.Putting.{front_more}
 use Rattle.node_runs.specs.Course.{Report, Datagram, Receive, End, Run, node_run}
 use Rattle.homa_plain.specs.Script.{most_bytes}
 use Rattle.node_runs.specs.Script.{opening}

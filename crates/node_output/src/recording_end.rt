@@ -8,10 +8,11 @@ ghost use Rattle.node_output.specs.declared.recording_end.Recorded.TheVariants a
 
 use homa_io::Sink;
 use homa_plain::{Entry, LineFault, WorldFault};
-use homa_text::Word::{Number, Text};
-use homa_text::{put_entry, put_line};
+use homa_text::put_entry;
 use node_io::SeenFault;
 use node_turns::NodeStop;
+use written_lines::Word::{Number, Text};
+use written_lines::put_line;
 
 /// How a recording ended, or why it was broken off.
 #[derive(Clone, Copy, Debug, PartialEq, Eq)]

@@ -16,11 +16,11 @@ use crate::filler::Filler;
 use crate::frames::{KeptFrame, keep};
 use homa_host::Host;
 use homa_plain::{Entry, HostId, LAST_HOST_TICK, Settings};
-use homa_text::counting_bytes;
 use host_view::Outbox;
 use msg_pool::Scratch;
 use quiet_laws::quiet_calls_end;
 use std::alloc::{AllocError, Global};
+use text_lines::counting_bytes;
 
 /// The host that calls.
 const CLIENT: HostId = HostId(0);

@@ -4,8 +4,8 @@ ghost use Rattle.homa_plain.specs.Limits.{longest_message};
 
 use homa_plain::LONGEST_MESSAGE;
 use homa_service::{Reply, Service};
-use homa_text::counting_bytes;
 use std::alloc::{AllocError, Global};
+use text_lines::counting_bytes;
 
 /// Answers every request by `size` counting bytes (each is its place modulo 256), and holds none back.
 #[derive(Debug, Drop)]

@@ -8,8 +8,8 @@ ghost use Rattle.quiet_call.specs.Text.{quiet_text};
 use crate::call::{QuietCall, bound};
 use homa_io::{Sink, WriteFailed};
 use homa_plain::Settings;
-use homa_text::{Word, put_line};
 use std::alloc::{AllocError, Global};
+use written_lines::{Word, put_line};
 
 /// The round in which a call with a request of `n` bytes and a response of `m` is done, where every packet is delivered
 /// once and in order.

@@ -11,9 +11,9 @@ use arrayvec::ArrayVec;
 use homa_io::{Sink, WriteFailed};
 use homa_plain::Event;
 use homa_script::{put_event, put_settings};
-use homa_text::Word::{Host, Number, Text};
-use homa_text::put_line;
 use itoa::Buffer;
+use written_lines::Word::{Host, Number, Text};
+use written_lines::put_line;
 
 // The word for so many counting bytes.
 fn counting_word(n: usize) -> ArrayVec<u8, 24>

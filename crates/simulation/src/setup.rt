@@ -5,8 +5,8 @@ ghost use Rattle.homa_plain.specs.Settings.{IsValid};
 
 use experiment::Experiment;
 use homa_plain::Settings;
-use homa_text::counting_bytes;
 use std::alloc::{AllocError, Global};
+use text_lines::counting_bytes;
 
 // The most bytes of a request or of an injected datagram.
 const MOST_BYTES: u32 = 1_000_000;

@@ -6,10 +6,12 @@ use homa_io::{MemSink, MemSource, ReadFailed, WriteFailed};
 use homa_plain::{
     Body, CallId, Entry, HostId, LineFault, Name, Role, ScriptFault, SettingFault, Settings,
 };
-use homa_text::{LineGot, Lines, Word, put_entry, put_line, read_bytes, read_number, word};
+use homa_text::put_entry;
 use std::alloc::{AllocError, Global};
 use std::process::Abort;
 use std::test::Fail;
+use text_lines::{LineGot, Lines, read_bytes, read_number, word};
+use written_lines::{Word, put_line};
 
 #[test]
 fn numbers(rt: HostRuntime) {

@@ -1,7 +1,7 @@
 use Rattle.std.proofs.Common.{◌∙◌}
 use Rattle.homa_io.proofs.Writing.{handed_on, ends_on, none_written, written_on}
 use Rattle.homa_script.specs.Named.{named_text}
-use Rattle.homa_text.proofs.Texts.{flat_map-more}
+use Rattle.written_lines.proofs.Texts.{flat_map-more}
 use Rattle.homa_script.proofs.Putting.{took_line}
 use Rattle.homa_script.proofs.put.put_named.Goals as goal
 

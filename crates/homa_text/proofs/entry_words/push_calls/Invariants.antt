@@ -1,7 +1,7 @@
 use Rattle.std.proofs.Common.{◌≡◌, ◌+◌, ◌++◌, map, take}
 use Rattle.arrayvec.specs.ArrayVec.{array_vec_len}
 use Rattle.homa_plain.specs.Text.{call_word}
-use Rattle.homa_text.specs.Written.{word_text}
+use Rattle.written_lines.specs.Written.{word_text}
 use Rattle.homa_text.proofs.entry_words.push_calls.Given as goal
 
 -- the calls so far were added

@@ -1,7 +1,7 @@
 use Rattle.std.proofs.Common.{◌≡◌, ◌+◌, ◌++◌, map, take}
 use Rattle.std.specs.Fmt.{decimal}
 use Rattle.arrayvec.specs.ArrayVec.{array_vec_len}
-use Rattle.homa_text.specs.Written.{word_text}
+use Rattle.written_lines.specs.Written.{word_text}
 use Rattle.homa_text.proofs.entry_words.push_numbers.Given as goal
 
 -- the numbers so far were added

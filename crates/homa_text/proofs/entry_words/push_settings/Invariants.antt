@@ -2,7 +2,7 @@ use Rattle.std.proofs.Common.{◌≡◌, ◌+◌, ◌++◌, map, take}
 use Rattle.std.specs.Fmt.{decimal}
 use Rattle.arrayvec.specs.ArrayVec.{array_vec_len}
 use Rattle.homa_plain.specs.Settings.{setting}
-use Rattle.homa_text.specs.Written.{word_text}
+use Rattle.written_lines.specs.Written.{word_text}
 use Rattle.homa_text.proofs.entry_words.push_settings.Given as goal
 
 -- the numbers of the names so far were added

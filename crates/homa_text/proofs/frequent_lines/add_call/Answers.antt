@@ -1,5 +1,5 @@
 use Rattle.std.proofs.Common.{arith}
-use Rattle.homa_text.proofs.Texts.{ten_digits}
+use Rattle.homa_text.proofs.Calls.{ten_digits}
 use Rattle.homa_text.proofs.frequent_lines.add_call.Goals as goal
 
 pub returns-clause-len : goal.returns-clause-len

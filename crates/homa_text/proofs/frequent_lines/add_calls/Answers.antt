@@ -1,6 +1,6 @@
 use Rattle.std.proofs.Common.{arith, refl}
-use Rattle.homa_text.proofs.LineParts.{part_on}
-use Rattle.homa_text.proofs.Texts.{calls-more}
+use Rattle.written_lines.proofs.Texts.{part_on}
+use Rattle.homa_text.proofs.Calls.{calls-more}
 use Rattle.homa_text.proofs.frequent_lines.add_calls.Goals as goal
 
 pub loop-inc-preserved : goal.loop-inc-preserved

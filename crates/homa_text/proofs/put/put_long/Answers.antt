@@ -2,7 +2,7 @@ use Rattle.std.proofs.Common.{refl, ◌++◌, [], ◌∷◌, codes}
 use Rattle.hex.specs.Hex.{encode_lower}
 use Rattle.homa_text.specs.FrequentLines.{head_text, piece_text}
 use Rattle.homa_io.proofs.Writing.{handed_on}
-use Rattle.homa_text.proofs.Putting.{front_more, puts_on, failed_on, whole_on}
+use Rattle.written_lines.proofs.Putting.{front_more, puts_on, failed_on, whole_on}
 use Rattle.homa_text.proofs.LineParts.{long_line_text}
 use Rattle.homa_text.proofs.put.put_long.Goals as goal
 

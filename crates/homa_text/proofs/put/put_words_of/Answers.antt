@@ -1,8 +1,8 @@
 use Rattle.std.proofs.Common.{◌∙◌, ℕ, List, map, ap, subst}
 use Rattle.homa_io.specs.Writing.{IsWritten}
 use Rattle.homa_plain.specs.Text.{line_of_words, line_text}
-use Rattle.homa_text.specs.declared.written.Word.{Word}
-use Rattle.homa_text.specs.Written.{word_text}
+use Rattle.written_lines.specs.declared.written.Word.{Word}
+use Rattle.written_lines.specs.Written.{word_text}
 use Rattle.homa_text.proofs.put.put_words_of.Goals as goal
 
 pub returns : goal.returns
