@@ -1,6 +1,5 @@
 // A queue with the link that takes from it.
-ghost use Rattle.std.specs.Prelude.{◌≡◌, ◌≤◌, ◌<◌, ◌+◌, ◌*◌, ◌-◌, ◌^◌, length, nat_le, min, true, false, Ok, None, Some, IfOk, IfSome, OnErr};
-ghost use Rattle.network_parts.specs.Queues.{total};
+ghost use Rattle.std.specs.Prelude.{◌≡◌, ◌≤◌, ◌<◌, ◌+◌, ◌*◌, ◌^◌, length, nat_le, min, None, IfOk, IfSome};
 
 use crate::packet::SimPacket;
 use crate::tally::QueueTally;
@@ -40,7 +39,7 @@ pub(crate) struct Outlet {
 
 impl Outlet {
     ghost use Rattle.experiment.specs.declared.network.Card.TheVariants.{Levels};
-    ghost use Rattle.packet_network.specs.Outlets.{waiting_at};
+    ghost use Rattle.packet_network.specs.Outlets.{waiting_at, HasQueued};
     ghost use Rattle.packet_network.specs.Measures.{taken_ever, taken_to};
 
     /// Nothing waits.
@@ -93,11 +92,7 @@ impl Outlet {
     #[tactic(auto, using(crate::proofs::StandingLaws::one_enters))]
     fn queue(&mut self, level: usize, packet: SimPacket) -> Result<bool, AllocError>
         requires { level < 8 }
-        ensures fits { result ≡ Ok true → waiting_at self.new ≡ waiting_at self.old + 1 }
-        ensures full { result ≡ Ok false → self.old.port.room < total self.old.port.queues + packet.bytes }
-        ensures refused { result ≡ Ok false → waiting_at self.new ≡ waiting_at self.old }
-        ensures err { OnErr result (waiting_at self.new ≡ waiting_at self.old) }
-        ensures room { self.new.port.room ≡ self.old.port.room }
+        ensures { HasQueued self.old self.new packet.bytes result }
     {
         match self.order {
             Card::Fifo | Card::Levels => {
@@ -117,11 +112,7 @@ impl Outlet {
 
     /// A packet comes; false where there is no room.
     pub(crate) fn enter(&mut self, now: u64, packet: SimPacket) -> Result<bool, AllocError>
-        ensures fits { result ≡ Ok true → waiting_at self.new ≡ waiting_at self.old + 1 }
-        ensures full { result ≡ Ok false → self.old.port.room < total self.old.port.queues + packet.bytes }
-        ensures refused { result ≡ Ok false → waiting_at self.new ≡ waiting_at self.old }
-        ensures err { OnErr result (waiting_at self.new ≡ waiting_at self.old) }
-        ensures room { self.new.port.room ≡ self.old.port.room }
+        ensures { HasQueued self.old self.new packet.bytes result }
     {
         let level = self.level_of(&packet);
         let bytes = packet.bytes;
