@@ -96,11 +96,7 @@ fn packet_between(host: HostId, from: HostId, packet: &WirePacket, len: u64) -> 
         to: host,
         inc: packet.sender,
         role: packet.role,
-        id: CallId {
-            client: client_of(packet.role, host, from),
-            inc: packet.inc,
-            seq: packet.seq,
-        },
+        id: packet.call(client_of(packet.role, host, from)),
         piece: Piece::of(&packet.body, len),
     }
 }
