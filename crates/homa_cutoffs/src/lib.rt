@@ -1,5 +1,6 @@
 //! The priority levels of messages that need no grant, and the cutoffs between them.
 //! Rules: how a receiver computes the cutoffs that CUTOFFS carry, and at which level a sender's unscheduled bytes go.
+//! `host_state/src/cutoffs_packets` says to whom CUTOFFS are sent.
 //!
 //! A host notes the lengths of the last 256 messages opened to it in a `Recent`, which contracts see as a
 //! list of numbers, the oldest first, and works out its cutoffs from them. Who sends to it takes the

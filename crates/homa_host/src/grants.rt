@@ -1,6 +1,6 @@
-// How far messages are granted, and the GRANTs that say so.
-// Rules: a GRANT to each chosen message (overcommitment), up to `window` bytes beyond those that arrived, with a
-// priority by SRPT.
+// How far messages are granted, and the GRANTs that say so, with their priorities.
+// Rules: a GRANT to each chosen message (overcommitment), up to `window` bytes beyond those that arrived. Of n chosen
+// messages the first by SRPT gets priority n - 1, and the last gets 0.
 ghost use Rattle.std.specs.Prelude.{◌≡◌, ◌+◌, ◌≤◌, IsSomeAnd, option_copied};
 ghost use Rattle.homa_plain.specs.Grants.{new_end, seen as message_of};
 ghost use Rattle.homa_plain.specs.Sending.{Arriving};
