@@ -331,8 +331,9 @@ def sizes_of(process, seconds):
 
 
 class Flooded:
-    """The run of a node with two hosts, for so many seconds under foreign datagrams, and for ten more without them: its status, its lines, its memory
-    under them, and how many datagrams the system dropped, as a socket's buffer was full."""
+    """The run of a node with two hosts, for so many seconds under foreign datagrams, and for ten more without them.
+
+    It has the status, the lines, the memory under them, and how many datagrams the system dropped, as a socket's buffer was full."""
 
     def __init__(self, chosen, a_second, seconds, count):
         ports = free_ports(3)

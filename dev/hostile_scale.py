@@ -113,9 +113,10 @@ KINDS = (
 
 
 def scale(faults, chosen):
-    """Traces of a hundred thousand and of a million lines, or of a million and of ten with five minutes and more: the last lines, time a line,
-    which is less in the larger one than one and a half times that in the smaller one and 100 ns, and memory, of which the replay's grows by what is kept
-    of old packets alone."""
+    """Traces of a hundred thousand and of a million lines, or of a million and of ten with five minutes and more.
+
+    What is looked at: the last lines, the time a line, and memory. The larger trace takes less than one and a half times the smaller one's time a line, and
+    100 ns. A replay's memory grows by what is kept of old packets alone."""
     most, kept = 10000000 if chosen.minutes >= 5 else 1000000, {}
     for kind, parts, told, packets, old, events in KINDS:
         counts = [most // 10 // told, most // told]

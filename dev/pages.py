@@ -1,5 +1,5 @@
 """What dev/tidy finds in the pages: long sentences, links that lead nowhere, words that have a plainer one, examples that
-no test compares, and tables that differ from the code's; and in the help of the tools the sentences and the words."""
+no test compares, and tables that differ from the code's. In the help of the tools it looks at sentences and words."""
 import ast
 import glob
 import os

@@ -1,4 +1,4 @@
-/* Calls over loopback UDP: a server, which answers each request by its bytes in reverse, and a client, which compares each response.
+/* Calls over loopback UDP. A server answers each request by its bytes in reverse, and a client compares each response.
  *
  * usage: echo [CALLS [BYTES [AT_A_TIME]]]     (100 calls of 100 bytes, one at a time); prints 'CALLS calls of BYTES bytes: N done, M failed'
  */

@@ -32,7 +32,7 @@ static inline bool put_identity(identity *it, uint64_t leased) {
     return is_put;
 }
 
-/* What the file of the last life says, or 0 and 0 where there was none. */
+/* What the file of the last incarnation says, or 0 and 0 where there was none. */
 static inline bool get_identity(const identity *it, uint32_t *incarnation, unsigned long long *leased) {
     *incarnation = 0;
     *leased = 0;

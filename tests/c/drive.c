@@ -1,6 +1,6 @@
-/* Random steps of five hosts by all calls of homa.h, beside a model of what the header says: the result of each call, what is written
- * and what stays, what is shown; a call that is told is one that was made, its response is what was given, it runs at most once in a life of
- * its server, and a turn before the tick of homa_next_turn does nothing. Prints what failed, and 'drive: N steps, M failed'.
+/* Random steps of five hosts by all calls of homa.h, beside a model of what the header says: the result of each call, what it writes, what
+ * stays and what is shown. A call that comes to its server was made, and its response is what was given. It runs at most once in an
+ * incarnation of its server. A turn before the tick of homa_next_turn does nothing. Prints what failed, and 'drive: N steps, M failed'.
  *
  * usage: drive STEPS SEED [MODE]     MODE has the letters h (a third of the datagrams is forged) and m (a third of some allocations is
  * refused; linked with -Wl,--wrap=malloc,--wrap=realloc) */

@@ -1,5 +1,5 @@
-/* Random and mutated datagrams into one handle: each is answered, what is shown stays within its bounds, an answer that is asked for is
- * taken, and afterwards the host serves a new client.
+/* Random and mutated datagrams into one handle. Each is answered, what is shown stays within its bounds, and an answer that is asked for is
+ * taken. Afterwards the host serves a new client.
  *
  * usage: fuzz [DATAGRAMS [SEED]]      (1,000,000 and 1); prints 'fuzz: N passed, M failed' */
 #include "homa.h"

@@ -1,7 +1,7 @@
-/* Random steps of a net whose server keeps what asks (homa_open_late), beside a mirror of the calls that it keeps. At each step: a call is
- * told once while it is kept; what is told is what was called; an entry HOMA_RAN comes with exactly the answer that was given to that
- * call, and at most once in an incarnation; a call makes room only if its datagram is too old, and the oldest one does; each result is
- * the one that the mirror says, and where nothing happened nothing is shown.
+/* Random steps of a net whose server keeps what asks (homa_open_late), beside a mirror of the calls that it keeps. While a call is kept it is
+ * shown once, as it was made. An entry HOMA_RAN comes with exactly the answer that was given to that call, and at most once in an
+ * incarnation. A call makes room only if its datagram is too old, and the oldest one does. Each result is the mirror's. If nothing
+ * happened, nothing is shown.
  * Prints what failed, and 'late_drive: N steps, M failed'.
  *
  * usage: late_drive STEPS SEED [MODE]     MODE has the letters h (a fourth of the datagrams is forged), m (a third of some allocations is

@@ -1,5 +1,5 @@
-/* A net on the loopback that loses datagrams, and sends some of them twice: host i, who is at BASE + i, reaches host j by BASE + 100 + j, and
- * j sees it come from BASE + 100 + i. Ends with SIGTERM, and prints how many came and were lost.
+/* A net on the loopback that loses datagrams, and sends some of them twice. Host i, which is at BASE + i, reaches host j by BASE + 100 + j.
+ * Host j sees it come from BASE + 100 + i. Ends with SIGTERM, and prints how many came and were lost.
  *
  * usage: proxy BASE HOSTS LOST_PERCENT */
 #define _GNU_SOURCE

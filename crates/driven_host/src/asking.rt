@@ -79,8 +79,8 @@ impl Model for AskingHost {
 }
 
 impl AskingHost {
-    /// A host without calls, in this incarnation, whose own clock stood at `last` at its last step in an earlier life. Only
-    /// this takes memory that is kept, but for messages. It fails by want of memory alone.
+    /// A host without calls, in this incarnation. At its last step in an earlier one its own clock stood at `last`. Only this
+    /// takes memory that is kept, but for messages. It fails by want of memory alone.
     pub fn open(
         alloc: Global,
         id: HostId,
@@ -144,9 +144,9 @@ impl AskingHost {
         None
     }
 
-    /// Calls a service of another host, at tick `now` of the host's own clock, up to 1,000,000,002,000. If the call can't be
-    /// made, the answer says why: the request is dropped, and the host stays as it was; either the last step is shown on, or
-    /// nothing.
+    /// Calls a service of another host, at tick `now` of the host's own clock, up to 1,000,000,002,000. If the call can't
+    /// be made, the answer says why. Then the request is dropped, and the host stays as it was. Either the last step is
+    /// shown on, or nothing.
     pub fn call(
         &mut self,
         server: HostId,
@@ -182,9 +182,9 @@ impl AskingHost {
     }
 
     /// A datagram comes from another host, at tick `now` of the host's own clock, with the answer to the request that it may
-    /// make whole: of 1 to 1,000,000 bytes, or empty where none is in hand yet. Where it asks, the call, the service and the
-    /// request, in `whole`, are those that the step begins to serve, whatever the answer will be. Where the host takes no step
-    /// it stays as it was: where it is refused the last step is shown on, and else nothing but `whole`.
+    /// make whole: of 1 to 1,000,000 bytes, or empty if there is none yet. If it asks, the call, the service and the request,
+    /// in `whole`, are those that the step begins to serve, whatever the answer will be. If the host takes no step it stays as
+    /// it was. A refused one leaves the last step shown; else nothing is shown but `whole`.
     pub fn deliver(
         &mut self,
         alloc: Global,
@@ -285,10 +285,10 @@ impl AskingHost {
         Ok(())
     }
 
-    /// The tick before which no turn does anything: at each earlier one, later than the last step, a turn tells and sends
-    /// nothing and leaves the host as it is, but for its clock and its credit. Either it is the tick after that of the last
-    /// step, and bytes of a message wait to be sent, or the deadline of a row. None if no turn that may begin does anything
-    /// before the next call or datagram: none at the last tick either, and at that of the last step none unless it is the last.
+    /// The tick before which no turn does anything: after the last step and before it, a turn sends and tells nothing. It only
+    /// moves the clock and fills the credit. The tick is the next one if bytes of a message wait to be sent, and else the
+    /// deadline of a row. None if no turn that may begin does anything before the next call or datagram. That includes a turn
+    /// at the tick of the last step, unless that is the last tick.
     pub fn next_turn(&self) -> Option<u64>
         ensures idle { IfSome result (λ at. (now : ℕ) → self.now.host.host.last < now → now < at → IsIdleTurn self.now.host now) }
         ensures may_act { IfSome result (MayAct self.now.host) }

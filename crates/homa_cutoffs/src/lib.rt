@@ -2,9 +2,8 @@
 //! Rules: how a receiver computes the cutoffs that CUTOFFS carry, and at which level a sender's unscheduled bytes go.
 //! `host_state/src/cutoffs_packets` says to whom CUTOFFS are sent.
 //!
-//! A host notes the lengths of the last 256 messages opened to it in a `Recent`, which contracts see as a
-//! list of numbers, the oldest first, and works out its cutoffs from them. Who sends to it takes the
-//! level of each message from these cutoffs, by the trait `Levels`.
+//! A host notes the lengths of the last 256 messages opened to it in a `Recent`, and works out its cutoffs from them.
+//! Contracts see a list of numbers, the oldest first. A sender takes a message's level from the cutoffs, by `Levels`.
 //!
 //! Main promise: `Recent::balance` answers the cutoffs that share the noted messages' weight among the levels
 //! from k to 7: each bound is the least length up to which the messages have their levels' share of it. And

@@ -1,4 +1,4 @@
--- GRANTs: to how many messages (overcommitment), to which, at which priority, up to where.
+-- GRANTs: to how many messages (overcommitment), to which, at which priority, up to where. `Steps` gives them.
 use Rattle.std.specs.Prelude.{◌≡◌, ◌<◌, true, Some, slice_get, Contains, ℕ, suc, ◌+◌, ◌-◌, nat_lt, min, if◌then◌else◌, List, [], ◌∷◌}
 use Rattle.std.specs.Prelude.{◌++◌, length, take}
 use Rattle.plain_sets.specs.Ordered.{is_below, ordered, firsts}

@@ -1,4 +1,4 @@
--- What a rule for one row is given, and what comes of it.
+-- A rule for one row: it maps a `Moment`, what it may look at, to a `Did`, what it changes and tells.
 use Rattle.std.specs.Prelude.{ℕ, ◌+◌, ◌==◌, Bool, false, if◌then◌else◌, Option, None, Some, List, []}
 use Rattle.homa_plain.specs.declared.id.HostId.{HostId}
 use Rattle.homa_plain.specs.declared.packet.Body.{Body}

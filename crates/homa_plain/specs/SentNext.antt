@@ -1,4 +1,4 @@
--- What is sent next: which message goes first, which piece of it, and how long the pump goes on.
+-- What is sent next: which message goes first, and how long the pump goes on. Its piece is `next_range` of `Outgoing`.
 use Rattle.std.specs.Prelude.{ℕ, ◌+◌, ◌-◌, ◌&&◌, ◌||◌, Bool, nat_lt, nat_le, if◌then◌else◌, Option, None, Some, List, [], ◌∷◌, ◌++◌, drop, zero}
 use Rattle.std.specs.Prelude.{suc, length}
 use Rattle.std.specs.List.{flat_map}

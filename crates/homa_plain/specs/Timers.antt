@@ -1,4 +1,4 @@
--- When the timer of a row is due, and what the row does then.
+-- When the timer of a row is due, and what the row does then: RESEND after a silence, NEED_ACK, and the end of a call.
 use Rattle.std.specs.Prelude.{ℕ, ◌+◌, ◌&&◌, ◌||◌, Bool, false, nat_lt, nat_le, is_none, if◌then◌else◌, Option, None, Some, List, [], ◌∷◌, ◌++◌}
 use Rattle.std.specs.Prelude.{take, filter}
 use Rattle.std.specs.List.{flat_map}

@@ -1,4 +1,4 @@
--- Tombstones: what is left of a call that ran, and for how long. `Timers` takes it away.
+-- Tombstones: what is left of a call that ran, and for how long. `Timers` takes it away; `span` is in `Settings`.
 use Rattle.std.specs.Prelude.{ℕ, ◌+◌, nat_lt, if◌then◌else◌, Option, None, Some, List, [], ◌∷◌, ◌*◌}
 use Rattle.homa_plain.specs.declared.id.CallId.{CallId}
 use Rattle.homa_plain.specs.declared.packet.Body.TheVariants as body
