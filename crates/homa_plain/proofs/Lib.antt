@@ -1,15 +1,11 @@
 pub mod SettingsLemmas
-pub mod ScriptWorked
-pub mod QuietWorked
 pub mod CallOrder
 pub mod TraceLines
-pub mod WireWorked
 pub mod WireFields
 pub mod WireRows
 pub mod WireBodies
 pub mod WireLaws
 pub mod WireLengths
-pub mod PartsWorked
 pub mod PartSets
 pub mod ArrivalLaws
 pub mod OutgoingLaws

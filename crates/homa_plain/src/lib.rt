@@ -8,37 +8,27 @@
 //! if the settings are valid.
 #![tactic(auto)]
 
-mod choice_laws;
 mod entry;
 mod event;
 mod fault;
 mod frame;
 mod id;
-mod incoming_laws;
 mod limits;
 mod old_packets;
-mod outgoing_laws;
 mod packet;
 mod row;
 mod settings;
 mod spans;
-mod wire_laws;
 
-pub use choice_laws::{
-    choices, cutoff_bounds, due_rows, grants_made, message_levels, recent_lengths,
-};
 pub use entry::{Entry, Why};
 pub use event::Event;
 pub use fault::{LineFault, ScriptFault, StartFault, WorldFault};
 pub use frame::Frame;
 pub use id::{CallId, HostId};
-pub use incoming_laws::{arrivals, incoming_messages, message_gaps, whole_messages};
 pub use limits::{
     LAST_HOST_TICK, LAST_TICK, LONGEST_HOLD, LONGEST_INPUT, LONGEST_MESSAGE, LONGEST_PIECE,
     MOST_SERVICES, MOST_SKEW,
 };
-pub use outgoing_laws::{grants_received, outgoing_messages, resends, sends};
 pub use packet::{Body, Cutoffs, Kind, More, Packet, Role};
 pub use row::{Emitted, OutFacts, RowFacts};
 pub use settings::{Name, SettingFault, Settings};
-pub use wire_laws::{no_packet, one_packet, one_spelling, payload_is_last, spelled_length};

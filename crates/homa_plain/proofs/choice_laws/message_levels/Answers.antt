@@ -1,8 +1,0 @@
-use Rattle.homa_plain.proofs.CutoffLaws.{is_level_of, level_only}
-use Rattle.homa_plain.proofs.choice_laws.message_levels.Goals as goal
-
-pub returns-clause-greatest : goal.returns-clause-greatest
-returns-clause-greatest c = is_level_of
-
-pub returns-clause-only : goal.returns-clause-only
-returns-clause-only c = level_only

@@ -1,8 +1,0 @@
-use Rattle.homa_plain.proofs.OutgoingLaws.{granted-grant, waiting-grant}
-use Rattle.homa_plain.proofs.outgoing_laws.grants_received.Goals as goal
-
-pub returns-clause-granted : goal.returns-clause-granted
-returns-clause-granted c = granted-grant
-
-pub returns-clause-waiting : goal.returns-clause-waiting
-returns-clause-waiting c = waiting-grant

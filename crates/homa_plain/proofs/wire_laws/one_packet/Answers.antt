@@ -1,5 +1,0 @@
-use Rattle.homa_plain.proofs.WireLaws.{one_packet}
-use Rattle.homa_plain.proofs.wire_laws.one_packet.Goals as goal
-
-pub returns : goal.returns
-returns c = one_packet

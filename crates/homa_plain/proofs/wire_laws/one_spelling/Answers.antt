@@ -1,5 +1,0 @@
-use Rattle.homa_plain.proofs.WireLaws.{one_spelling}
-use Rattle.homa_plain.proofs.wire_laws.one_spelling.Goals as goal
-
-pub returns : goal.returns
-returns c = one_spelling

@@ -1,5 +1,0 @@
-use Rattle.homa_plain.proofs.WireLengths.{payload_is_last}
-use Rattle.homa_plain.proofs.wire_laws.payload_is_last.Goals as goal
-
-pub returns : goal.returns
-returns c = payload_is_last

@@ -1,0 +1,4 @@
+pub mod PartsWorked
+pub mod QuietWorked
+pub mod ScriptWorked
+pub mod WireWorked
