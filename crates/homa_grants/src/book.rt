@@ -1,6 +1,7 @@
 // The messages, in a heap for each sender and one heap over the senders.
 // Rules: overcommitment (GRANTs to a few messages at a time, one of each sender), and SRPT (the fewest missing bytes
-// first). `homa_host/src/grants` says how far each is granted, and at which priority.
+// first). `homa_host/src/grants` says how far each is granted, and `grant_priorities` there at which
+// priority.
 ghost use Rattle.std.specs.Prelude.{◌≡◌, ℕ, ◌<◌, ◌≤◌, ◌+◌, [], map, length, IfOk, IsSome};
 ghost use Rattle.std.specs.Option.{option_map, ForSome};
 ghost use Rattle.place_heap.specs.Held.{list_of};

@@ -1,6 +1,7 @@
 //! The incoming messages of a receiver that aren't whole, and which of them are granted to.
 //! Rules: overcommitment (GRANTs to a few messages at a time, one of each sender), and SRPT (the fewest missing bytes
-//! first). `homa_host/src/grants` says how far each is granted, and at which priority.
+//! first). `homa_host/src/grants` says how far each is granted, and `grant_priorities` there at which
+//! priority.
 //!
 //! A [`GrantBook`] is seen as the list of its messages in order of how many bytes are missing, ties by the order in
 //! which they were opened. Each message is under a slot, the place of its row. The main promise: of all messages

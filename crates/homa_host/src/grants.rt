@@ -1,11 +1,9 @@
-// How far messages are granted, and the GRANTs that say so, with their priorities.
-// Rules: a GRANT to each chosen message (overcommitment), up to `window` bytes beyond those that arrived. Of n chosen
-// messages the first by SRPT gets priority n - 1, and the last gets 0.
+// How far a message is granted, and the GRANT that says so.
+// Rule: up to `window` bytes beyond those that arrived. `grant_priorities` says at which priority.
 ghost use Rattle.std.specs.Prelude.{◌≡◌, ◌+◌, ◌≤◌, IsSomeAnd, option_copied};
 ghost use Rattle.homa_plain.specs.Grants.{new_end, seen as message_of};
 ghost use Rattle.homa_plain.specs.Sending.{Arriving};
 ghost use Rattle.homa_plain.specs.Work.{Work};
-ghost use Rattle.homa_plain.specs.Steps.{gives_grants};
 ghost use Rattle.msg_pool.specs.Pool.{Pool};
 ghost use Rattle.homa_in.specs.Part.{IsIn, seen};
 ghost use Rattle.homa_host.specs.Parts.{seen_of, IsKept};
@@ -16,31 +14,13 @@ ghost use Rattle.host_view.specs.Follow.{ChangesAt};
 
 use crate::outcome::Change;
 use crate::parts::{HostParts, Place, follow_client, follow_server};
-use arrayvec::ArrayVec;
 use homa_in::Incoming;
 use homa_plain::{Body, CallId, HostId, LONGEST_MESSAGE, Role};
 use host_view::Outbox;
 
 impl HostParts {
-    // The chosen messages are granted to, in order of rank.
-    pub(crate) fn give_grants(&mut self, out: &mut Outbox)
-        requires kept { IsKept self.old }
-        requires room { HasRoom 7 7 self.old out.old }
-        ensures kept { IsKept self.new }
-        ensures step { (w : Work) → Amid w self.old out.old → Amid (gives_grants self.old.control.settings w) self.new out.new }
-        ensures steady { Steady 7 7 0 self.old out.old self.new out.new }
-    {
-        let mut chosen: ArrayVec<u32, 8> = ArrayVec::new();
-        self.books.grants.choose(&mut chosen);
-        let mut rank = chosen.len() as u8;
-        'ranks: for slot in chosen.as_slice() {
-            rank -= 1;
-            self.grant(*slot, rank, out);
-        }
-    }
-
     // The message of a slot is granted to up to its new end, where that is more than it is granted already.
-    fn grant(&mut self, slot: u32, prio: u8, out: &mut Outbox)
+    pub(crate) fn grant(&mut self, slot: u32, prio: u8, out: &mut Outbox)
         requires kept { IsKept self.old }
         requires arrives { (a : Arriving) × ArrivesAt self.old slot a }
         requires prio { prio ≤ 7 }

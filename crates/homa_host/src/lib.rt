@@ -12,6 +12,7 @@ mod arrives;
 mod asked;
 mod at_client;
 mod at_server;
+mod grant_priorities;
 mod grants;
 mod host;
 mod lent;
