@@ -1,5 +1,5 @@
 -- The calls that a packet acknowledges, part by part.
-use Rattle.std.proofs.Common.{◌≡◌, ◌<◌, ◌≤◌, ℕ, ◌+◌, ◌^◌, decimal, arith, List, ◌∷◌, ◌++◌, length, map, take, get_or, sym, ap, ◌∙◌, length-append}
+use Rattle.std.proofs.Common.{◌≡◌, ◌<◌, ◌≤◌, ℕ, ◌+◌, ◌^◌, decimal, arith, List, ◌∷◌, ◌++◌, length, map, take, get_or, sym, ap, ◌∙◌}
 use Rattle.std.proofs.lemmas.Fmt.{length-decimal-le}
 use Rattle.std.proofs.lemmas.List.Folds.{flat_map-map}
 use Rattle.homa_plain.specs.Text.{call_word}
@@ -15,7 +15,5 @@ calls-more calls i d h =
     ∙ (flat_map-more (λ (call : ℕ × ℕ). 32 ∷ call_word call) calls i d h ∙ sym (flat_map-map spaced call_word (take (i + 1) calls)))
 
 -- a number of 32 bits has at most ten digits
-pub ten_digits : (old new : List ℕ) (n : ℕ) → n < 2 ^ 32 → new ≡ old ++ decimal n → length new ≤ length old + 10
-ten_digits old new n small same =
-    let few : length (decimal n) ≤ 10 = length-decimal-le 10 n (omega arith) (omega arith) (omega arith) in
-    omega (arith, few, ap (λ (xs : List ℕ). length xs) same, length-append old (decimal n))
+pub ten_digits : (n : ℕ) → n < 2 ^ 32 → length (decimal n) ≤ 10
+ten_digits n small = length-decimal-le 10 n (omega arith) (omega arith) (omega arith)

@@ -9,18 +9,53 @@ use Rattle.homa_plain.specs.declared.id.HostId.{HostId}
 use Rattle.homa_text.specs.declared.frequent_lines.Head.{Head}
 use Rattle.homa_text.specs.declared.frequent_lines.Piece.{Piece}
 use Rattle.hex.specs.Hex.{encode_lower}
+use Rattle.written_lines.proofs.Texts.{part_on}
 use Rattle.homa_text.specs.FrequentLines.{head_text, piece_text, grant_sent, piece_sent, packet_sent, spaced_text}
 
--- three parts that were added to nothing
-pub three : (i0 i1 i2 i3 x y z : List ℕ) → i0 ≡ [] → i1 ≡ i0 ++ x → i2 ≡ i1 ++ y → i3 ≡ i2 ++ z → i3 ≡ x ++ (y ++ z)
-three i0 i1 i2 i3 x y z e0 e1 e2 e3 =
-    e3 ∙ (ap (λ (l : List ℕ). l ++ z) (e2 ∙ ap (λ (l : List ℕ). l ++ y) (e1 ∙ ap (λ (l : List ℕ). l ++ x) e0)) ∙ append_assoc x y z)
+-- three parts that were added
+pub three_parts : (old i1 i2 i3 x1 x2 x3 all : List ℕ) → i1 ≡ old ++ x1 → i2 ≡ i1 ++ x2 → i3 ≡ i2 ++ x3 → x1 ++ (x2 ++ x3) ≡ all → i3 ≡ old ++ all
+three_parts old i1 i2 i3 x1 x2 x3 all e1 e2 e3 same =
+    part_on i2 i3 old (x1 ++ x2) x3 all (part_on i1 i2 old x1 x2 (x1 ++ x2) e1 e2 refl) e3 (append_assoc x1 x2 x3 ∙ same)
 
--- four parts that were added to nothing
-pub four : (i0 i1 i2 i3 i4 x y z w : List ℕ) → i0 ≡ [] → i1 ≡ i0 ++ x → i2 ≡ i1 ++ y → i3 ≡ i2 ++ z → i4 ≡ i3 ++ w → i4 ≡ x ++ (y ++ (z ++ w))
-four i0 i1 i2 i3 i4 x y z w e0 e1 e2 e3 e4 =
-    e4 ∙ (ap (λ (l : List ℕ). l ++ w) (e3 ∙ ap (λ (l : List ℕ). l ++ z) (e2 ∙ ap (λ (l : List ℕ). l ++ y) (e1 ∙ ap (λ (l : List ℕ). l ++ x) e0)))
-    ∙ (append_assoc (x ++ y) z w ∙ append_assoc x y (z ++ w)))
+-- four parts that were added
+pub four_parts : (old i1 i2 i3 i4 x1 x2 x3 x4 all : List ℕ) → i1 ≡ old ++ x1 → i2 ≡ i1 ++ x2 → i3 ≡ i2 ++ x3 → i4 ≡ i3 ++ x4
+    → x1 ++ (x2 ++ (x3 ++ x4)) ≡ all → i4 ≡ old ++ all
+four_parts old i1 i2 i3 i4 x1 x2 x3 x4 all e1 e2 e3 e4 same =
+    let front = three_parts old i1 i2 i3 x1 x2 x3 (x1 ++ (x2 ++ x3)) e1 e2 e3 refl in
+    let joined : (x1 ++ (x2 ++ x3)) ++ x4 ≡ x1 ++ (x2 ++ (x3 ++ x4)) = simp append_assoc in
+    part_on i3 i4 old (x1 ++ (x2 ++ x3)) x4 all front e4 (joined ∙ same)
+
+-- five parts that were added
+pub five_parts : (old i1 i2 i3 i4 i5 x1 x2 x3 x4 x5 all : List ℕ) → i1 ≡ old ++ x1 → i2 ≡ i1 ++ x2 → i3 ≡ i2 ++ x3 → i4 ≡ i3 ++ x4 → i5 ≡ i4 ++ x5
+    → x1 ++ (x2 ++ (x3 ++ (x4 ++ x5))) ≡ all → i5 ≡ old ++ all
+five_parts old i1 i2 i3 i4 i5 x1 x2 x3 x4 x5 all e1 e2 e3 e4 e5 same =
+    let front = four_parts old i1 i2 i3 i4 x1 x2 x3 x4 (x1 ++ (x2 ++ (x3 ++ x4))) e1 e2 e3 e4 refl in
+    let joined : (x1 ++ (x2 ++ (x3 ++ x4))) ++ x5 ≡ x1 ++ (x2 ++ (x3 ++ (x4 ++ x5))) = simp append_assoc in
+    part_on i4 i5 old (x1 ++ (x2 ++ (x3 ++ x4))) x5 all front e5 (joined ∙ same)
+
+-- six parts that were added
+pub six_parts : (old i1 i2 i3 i4 i5 i6 x1 x2 x3 x4 x5 x6 all : List ℕ) → i1 ≡ old ++ x1 → i2 ≡ i1 ++ x2 → i3 ≡ i2 ++ x3 → i4 ≡ i3 ++ x4 → i5 ≡ i4 ++ x5 → i6 ≡ i5 ++ x6
+    → x1 ++ (x2 ++ (x3 ++ (x4 ++ (x5 ++ x6)))) ≡ all → i6 ≡ old ++ all
+six_parts old i1 i2 i3 i4 i5 i6 x1 x2 x3 x4 x5 x6 all e1 e2 e3 e4 e5 e6 same =
+    let front = five_parts old i1 i2 i3 i4 i5 x1 x2 x3 x4 x5 (x1 ++ (x2 ++ (x3 ++ (x4 ++ x5)))) e1 e2 e3 e4 e5 refl in
+    let joined : (x1 ++ (x2 ++ (x3 ++ (x4 ++ x5)))) ++ x6 ≡ x1 ++ (x2 ++ (x3 ++ (x4 ++ (x5 ++ x6)))) = simp append_assoc in
+    part_on i5 i6 old (x1 ++ (x2 ++ (x3 ++ (x4 ++ x5)))) x6 all front e6 (joined ∙ same)
+
+-- seven parts that were added
+pub seven_parts : (old i1 i2 i3 i4 i5 i6 i7 x1 x2 x3 x4 x5 x6 x7 all : List ℕ) → i1 ≡ old ++ x1 → i2 ≡ i1 ++ x2 → i3 ≡ i2 ++ x3 → i4 ≡ i3 ++ x4 → i5 ≡ i4 ++ x5 → i6 ≡ i5 ++ x6 → i7 ≡ i6 ++ x7
+    → x1 ++ (x2 ++ (x3 ++ (x4 ++ (x5 ++ (x6 ++ x7))))) ≡ all → i7 ≡ old ++ all
+seven_parts old i1 i2 i3 i4 i5 i6 i7 x1 x2 x3 x4 x5 x6 x7 all e1 e2 e3 e4 e5 e6 e7 same =
+    let front = six_parts old i1 i2 i3 i4 i5 i6 x1 x2 x3 x4 x5 x6 (x1 ++ (x2 ++ (x3 ++ (x4 ++ (x5 ++ x6))))) e1 e2 e3 e4 e5 e6 refl in
+    let joined : (x1 ++ (x2 ++ (x3 ++ (x4 ++ (x5 ++ x6))))) ++ x7 ≡ x1 ++ (x2 ++ (x3 ++ (x4 ++ (x5 ++ (x6 ++ x7))))) = simp append_assoc in
+    part_on i6 i7 old (x1 ++ (x2 ++ (x3 ++ (x4 ++ (x5 ++ x6))))) x7 all front e7 (joined ∙ same)
+
+-- eight parts that were added
+pub eight_parts : (old i1 i2 i3 i4 i5 i6 i7 i8 x1 x2 x3 x4 x5 x6 x7 x8 all : List ℕ) → i1 ≡ old ++ x1 → i2 ≡ i1 ++ x2 → i3 ≡ i2 ++ x3 → i4 ≡ i3 ++ x4 → i5 ≡ i4 ++ x5 → i6 ≡ i5 ++ x6 → i7 ≡ i6 ++ x7 → i8 ≡ i7 ++ x8
+    → x1 ++ (x2 ++ (x3 ++ (x4 ++ (x5 ++ (x6 ++ (x7 ++ x8)))))) ≡ all → i8 ≡ old ++ all
+eight_parts old i1 i2 i3 i4 i5 i6 i7 i8 x1 x2 x3 x4 x5 x6 x7 x8 all e1 e2 e3 e4 e5 e6 e7 e8 same =
+    let front = seven_parts old i1 i2 i3 i4 i5 i6 i7 x1 x2 x3 x4 x5 x6 x7 (x1 ++ (x2 ++ (x3 ++ (x4 ++ (x5 ++ (x6 ++ x7)))))) e1 e2 e3 e4 e5 e6 e7 refl in
+    let joined : (x1 ++ (x2 ++ (x3 ++ (x4 ++ (x5 ++ (x6 ++ x7)))))) ++ x8 ≡ x1 ++ (x2 ++ (x3 ++ (x4 ++ (x5 ++ (x6 ++ (x7 ++ x8)))))) = simp append_assoc in
+    part_on i7 i8 old (x1 ++ (x2 ++ (x3 ++ (x4 ++ (x5 ++ (x6 ++ x7)))))) x8 all front e8 (joined ∙ same)
 
 -- words with a space before each but the first, and a line feed behind the last, grouped from the right
 abbrev spread : List ℕ → List (List ℕ) → List ℕ
@@ -98,32 +133,18 @@ long_line_text head piece payload some =
     ∙ (ap (λ (l : List ℕ). head_text head (codes " DATA ") ++ (piece_text piece ++ (l ++ 10 ∷ []))) (sym (hex_word-some payload some))
     ∙ piece_line_text head piece payload))
 
--- one part more behind parts that were added to nothing
-pub more : (i j d e : List ℕ) → i ≡ d → j ≡ i ++ e → j ≡ d ++ e
-more i j d e f g = g ∙ ap (λ (l : List ℕ). l ++ e) f
-
-five_spread : (a b c d e f : List ℕ) → ((((a ++ b) ++ c) ++ d) ++ e) ++ f ≡ a ++ (b ++ (c ++ (d ++ (e ++ f))))
-five_spread a b c d e f = simp append_assoc
-
-seven_spread : (a b c d e f g h : List ℕ) → ((((((a ++ b) ++ c) ++ d) ++ e) ++ f) ++ g) ++ h ≡ a ++ (b ++ (c ++ (d ++ (e ++ (f ++ (g ++ h))))))
-seven_spread a b c d e f g h = simp append_assoc
-
 pub call_text : (id : CallId) (server : HostId) (service : ℕ) (bytes : List ℕ)
-    → ((((codes "call" ++ (32 ∷ id_word id)) ++ (32 ∷ decimal server.0)) ++ (32 ∷ decimal service)) ++ (32 ∷ hex_word bytes))
-    ++ 10 ∷ [] ≡ line_text (PlainCall id server service bytes)
+    → codes "call" ++ ((32 ∷ id_word id) ++ ((32 ∷ decimal server.0) ++ ((32 ∷ decimal service) ++ ((32 ∷ hex_word bytes) ++ 10 ∷ []))))
+    ≡ line_text (PlainCall id server service bytes)
 unfolding line_text
-call_text id server service bytes =
-    five_spread (codes "call") (32 ∷ id_word id) (32 ∷ decimal server.0) (32 ∷ decimal service) (32 ∷ hex_word bytes) (10 ∷ [])
-    ∙ sym (line_spread (codes "call") (id_word id ∷ decimal server.0 ∷ decimal service ∷ hex_word bytes ∷ []))
+call_text id server service bytes = sym (line_spread (codes "call") (id_word id ∷ decimal server.0 ∷ decimal service ∷ hex_word bytes ∷ []))
 
 pub run_text : (host : HostId) (id : CallId) (service : ℕ) (request response : List ℕ) (hold : ℕ)
-    → ((((((codes "run" ++ (32 ∷ decimal host.0)) ++ (32 ∷ id_word id)) ++ (32 ∷ decimal service)) ++ (32 ∷ hex_word request))
-    ++ (32 ∷ hex_word response)) ++ (32 ∷ decimal hold)) ++ 10 ∷ [] ≡ line_text (PlainRun host id service request response hold)
+    → codes "run" ++ ((32 ∷ decimal host.0) ++ ((32 ∷ id_word id) ++ ((32 ∷ decimal service) ++ ((32 ∷ hex_word request)
+    ++ ((32 ∷ hex_word response) ++ ((32 ∷ decimal hold) ++ 10 ∷ [])))))) ≡ line_text (PlainRun host id service request response hold)
 unfolding line_text
 run_text host id service request response hold =
-    seven_spread (codes "run") (32 ∷ decimal host.0) (32 ∷ id_word id) (32 ∷ decimal service) (32 ∷ hex_word request) (32 ∷ hex_word response)
-    (32 ∷ decimal hold) (10 ∷ [])
-    ∙ sym (line_spread (codes "run") (decimal host.0 ∷ id_word id ∷ decimal service ∷ hex_word request ∷ hex_word response ∷ decimal hold ∷ []))
+    sym (line_spread (codes "run") (decimal host.0 ∷ id_word id ∷ decimal service ∷ hex_word request ∷ hex_word response ∷ decimal hold ∷ []))
 
 pub done_text : (id : CallId) (bytes : List ℕ) → codes "done" ++ ((32 ∷ id_word id) ++ ((32 ∷ hex_word bytes) ++ 10 ∷ [])) ≡ line_text (PlainDone id bytes)
 unfolding line_text
@@ -134,15 +155,10 @@ pub inject_text : (host : HostId) (bytes : List ℕ) → codes "inject" ++ ((32 
 unfolding line_text
 inject_text host bytes = sym (line_spread (codes "inject") (decimal host.0 ∷ hex_word bytes ∷ []))
 
-four_spread : (a b c d e : List ℕ) → (((a ++ b) ++ c) ++ d) ++ e ≡ a ++ (b ++ (c ++ (d ++ e)))
-four_spread a b c d e = simp append_assoc
-
 pub bury_text : (host : HostId) (id : CallId) (until : ℕ)
-    → (((codes "bury" ++ (32 ∷ decimal host.0)) ++ (32 ∷ id_word id)) ++ (32 ∷ decimal until)) ++ 10 ∷ [] ≡ line_text (PlainBury host id until)
+    → codes "bury" ++ ((32 ∷ decimal host.0) ++ ((32 ∷ id_word id) ++ ((32 ∷ decimal until) ++ 10 ∷ []))) ≡ line_text (PlainBury host id until)
 unfolding line_text
-bury_text host id until =
-    four_spread (codes "bury") (32 ∷ decimal host.0) (32 ∷ id_word id) (32 ∷ decimal until) (10 ∷ [])
-    ∙ sym (line_spread (codes "bury") (decimal host.0 ∷ id_word id ∷ decimal until ∷ []))
+bury_text host id until = sym (line_spread (codes "bury") (decimal host.0 ∷ id_word id ∷ decimal until ∷ []))
 
 pub free_text : (host : HostId) (id : CallId) → codes "free" ++ ((32 ∷ decimal host.0) ++ ((32 ∷ id_word id) ++ 10 ∷ [])) ≡ line_text (PlainFree host id)
 unfolding line_text

@@ -4,11 +4,10 @@ ghost use Rattle.homa_plain.specs.declared.packet.Body.TheVariants as body;
 ghost use Rattle.homa_plain.specs.Text.{id_word, role_word, route_word, call_word, ack_word, hex_word, kind_word, body_words, line_text};
 ghost use Rattle.homa_plain.specs.Entries.{PlainClock, PlainDeliver};
 ghost use Rattle.homa_text.specs.FrequentLines.{head_text, numbers_text, piece_text, grant_sent, piece_sent, packet_sent, spaced_text, IsBare};
-ghost use Rattle.arrayvec.specs.ArrayVec.{array_vec_len};
 
 use arrayvec::ArrayVec;
 use homa_plain::{Body, CallId, HostId, Role};
-use written_lines::{add, add_hex, add_number};
+use written_lines::{LineBuffer, add, add_hex, add_number};
 
 /// Room for a line of words without bytes.
 pub(crate) type ShortLine = ArrayVec<u8, 256>;
@@ -38,9 +37,9 @@ pub(crate) struct Piece {
 
 /// A tick of the clock.
 #[tactic(auto, unfolding(homa_plain::specs::Text::line_text))]
-pub(crate) fn clock_line(text: &mut ShortLine, tick: u64)
-    requires { text.old.items ≡ [] }
-    ensures { text.new.items ≡ line_text (PlainClock tick) }
+pub(crate) fn clock_line<T: LineBuffer>(text: &mut T, tick: u64)
+    requires { 256 ≤ T.space text.old }
+    ensures { T.content text.new ≡ T.content text.old ++ line_text (PlainClock tick) }
 {
     add(text, b"clock ");
     add_number(text, tick);
@@ -49,9 +48,9 @@ pub(crate) fn clock_line(text: &mut ShortLine, tick: u64)
 
 /// A packet that reaches its host.
 #[tactic(auto, unfolding(homa_plain::specs::Text::line_text))]
-pub(crate) fn deliver_line(text: &mut ShortLine, packet: u64)
-    requires { text.old.items ≡ [] }
-    ensures { text.new.items ≡ line_text (PlainDeliver packet) }
+pub(crate) fn deliver_line<T: LineBuffer>(text: &mut T, packet: u64)
+    requires { 256 ≤ T.space text.old }
+    ensures { T.content text.new ≡ T.content text.old ++ line_text (PlainDeliver packet) }
 {
     add(text, b"deliver ");
     add_number(text, packet);
@@ -60,10 +59,10 @@ pub(crate) fn deliver_line(text: &mut ShortLine, packet: u64)
 
 // Adds an incarnation and a sequence number, of at most ten digits each.
 #[inline(always)]
-fn add_call<const N: usize>(text: &mut ArrayVec<u8, N>, inc: u32, seq: u32)
-    requires { array_vec_len text.old + 41 ≤ N }
-    ensures items { text.new.items ≡ text.old.items ++ call_word (inc, seq) }
-    ensures len { array_vec_len text.new ≤ array_vec_len text.old + 21 }
+fn add_call<T: LineBuffer>(text: &mut T, inc: u32, seq: u32)
+    requires { 41 ≤ T.space text.old }
+    ensures items { T.content text.new ≡ T.content text.old ++ call_word (inc, seq) }
+    ensures len { T.space text.old ≤ T.space text.new + 21 }
 {
     add_number(text, u64::from(inc));
     add(text, b".");
@@ -72,10 +71,10 @@ fn add_call<const N: usize>(text: &mut ArrayVec<u8, N>, inc: u32, seq: u32)
 
 /// Adds a call with its client.
 #[inline(always)]
-pub(crate) fn add_id<const N: usize>(text: &mut ArrayVec<u8, N>, id: CallId)
-    requires { array_vec_len text.old + 62 ≤ N }
-    ensures items { text.new.items ≡ text.old.items ++ id_word id }
-    ensures len { array_vec_len text.new ≤ array_vec_len text.old + 42 }
+pub(crate) fn add_id<T: LineBuffer>(text: &mut T, id: CallId)
+    requires { 62 ≤ T.space text.old }
+    ensures items { T.content text.new ≡ T.content text.old ++ id_word id }
+    ensures len { T.space text.old ≤ T.space text.new + 42 }
 {
     add_number(text, u64::from(id.client.0));
     add(text, b".");
@@ -84,10 +83,10 @@ pub(crate) fn add_id<const N: usize>(text: &mut ArrayVec<u8, N>, id: CallId)
 
 // Adds who sent a packet.
 #[inline(always)]
-fn add_role<const N: usize>(text: &mut ArrayVec<u8, N>, role: Role)
-    requires { array_vec_len text.old + 1 ≤ N }
-    ensures items { text.new.items ≡ text.old.items ++ role_word role }
-    ensures len { array_vec_len text.new ≡ array_vec_len text.old + 1 }
+fn add_role<T: LineBuffer>(text: &mut T, role: Role)
+    requires { 1 ≤ T.space text.old }
+    ensures items { T.content text.new ≡ T.content text.old ++ role_word role }
+    ensures len { T.space text.new + 1 ≡ T.space text.old }
 {
     match role {
         Role::Client => add(text, b"c"),
@@ -97,10 +96,10 @@ fn add_role<const N: usize>(text: &mut ArrayVec<u8, N>, role: Role)
 
 // Adds from whom to whom.
 #[inline(always)]
-fn add_route<const N: usize>(text: &mut ArrayVec<u8, N>, from: HostId, to: HostId)
-    requires { array_vec_len text.old + 41 ≤ N }
-    ensures items { text.new.items ≡ text.old.items ++ route_word from to }
-    ensures len { array_vec_len text.new ≤ array_vec_len text.old + 41 }
+fn add_route<T: LineBuffer>(text: &mut T, from: HostId, to: HostId)
+    requires { 41 ≤ T.space text.old }
+    ensures items { T.content text.new ≡ T.content text.old ++ route_word from to }
+    ensures len { T.space text.old ≤ T.space text.new + 41 }
 {
     add_number(text, u64::from(from.0));
     add(text, b">");
@@ -109,10 +108,10 @@ fn add_route<const N: usize>(text: &mut ArrayVec<u8, N>, from: HostId, to: HostI
 
 // Adds a call that is acknowledged, if any.
 #[inline(always)]
-fn add_ack<const N: usize>(text: &mut ArrayVec<u8, N>, ack: Option<(u32, u32)>)
-    requires { array_vec_len text.old + 41 ≤ N }
-    ensures items { text.new.items ≡ text.old.items ++ ack_word ack }
-    ensures len { array_vec_len text.new ≤ array_vec_len text.old + 41 }
+fn add_ack<T: LineBuffer>(text: &mut T, ack: Option<(u32, u32)>)
+    requires { 41 ≤ T.space text.old }
+    ensures items { T.content text.new ≡ T.content text.old ++ ack_word ack }
+    ensures len { T.space text.old ≤ T.space text.new + 41 }
 {
     match ack {
         None => add(text, b"-"),
@@ -122,10 +121,10 @@ fn add_ack<const N: usize>(text: &mut ArrayVec<u8, N>, ack: Option<(u32, u32)>)
 
 /// Adds bytes in hex, or a hyphen where there are none.
 #[inline(always)]
-pub(crate) fn add_bytes<const N: usize>(text: &mut ArrayVec<u8, N>, bytes: &[u8])
-    requires { array_vec_len text.old + 2 * length bytes.now + 1 ≤ N }
-    ensures items { text.new.items ≡ text.old.items ++ hex_word bytes.now }
-    ensures len { array_vec_len text.new ≤ array_vec_len text.old + 2 * length bytes.now + 1 }
+pub(crate) fn add_bytes<T: LineBuffer>(text: &mut T, bytes: &[u8])
+    requires { 2 * length bytes.now + 1 ≤ T.space text.old }
+    ensures items { T.content text.new ≡ T.content text.old ++ hex_word bytes.now }
+    ensures len { T.space text.old ≤ T.space text.new + 2 * length bytes.now + 1 }
 {
     if bytes.is_empty() {
         return add(text, b"-");
@@ -135,10 +134,10 @@ pub(crate) fn add_bytes<const N: usize>(text: &mut ArrayVec<u8, N>, bytes: &[u8]
 
 /// Adds a space and a number.
 #[inline(always)]
-pub(crate) fn add_spaced<const N: usize>(text: &mut ArrayVec<u8, N>, n: u64)
-    requires { array_vec_len text.old + 21 ≤ N }
-    ensures items { text.new.items ≡ text.old.items ++ (32 ∷ decimal n) }
-    ensures len { array_vec_len text.new ≤ array_vec_len text.old + 21 }
+pub(crate) fn add_spaced<T: LineBuffer>(text: &mut T, n: u64)
+    requires { 21 ≤ T.space text.old }
+    ensures items { T.content text.new ≡ T.content text.old ++ (32 ∷ decimal n) }
+    ensures len { T.space text.old ≤ T.space text.new + 21 }
 {
     add(text, b" ");
     add_number(text, n);
@@ -146,10 +145,10 @@ pub(crate) fn add_spaced<const N: usize>(text: &mut ArrayVec<u8, N>, n: u64)
 
 // Adds the first words of a packet's line. The kind has a space before it and after it.
 #[inline(always)]
-fn add_head<const N: usize>(text: &mut ArrayVec<u8, N>, head: Head, kind: &[u8])
-    requires { array_vec_len text.old + length kind.now + 156 ≤ N }
-    ensures items { text.new.items ≡ text.old.items ++ head_text head kind.now }
-    ensures len { array_vec_len text.new ≤ array_vec_len text.old + length kind.now + 136 }
+fn add_head<T: LineBuffer>(text: &mut T, head: Head, kind: &[u8])
+    requires { length kind.now + 156 ≤ T.space text.old }
+    ensures items { T.content text.new ≡ T.content text.old ++ head_text head kind.now }
+    ensures len { T.space text.old ≤ T.space text.new + length kind.now + 136 }
 {
     add(text, b"send");
     add_spaced(text, head.number);
@@ -163,9 +162,9 @@ fn add_head<const N: usize>(text: &mut ArrayVec<u8, N>, head: Head, kind: &[u8])
 }
 
 /// Makes the line of a GRANT.
-pub(crate) fn grant_line(text: &mut ShortLine, head: Head, offset: u64, prio: u64)
-    requires { text.old.items ≡ [] }
-    ensures { (level : ℕ) (payload : List ℕ) → text.new.items ≡ line_text (grant_sent head level offset prio payload) }
+pub(crate) fn grant_line<T: LineBuffer>(text: &mut T, head: Head, offset: u64, prio: u64)
+    requires { 256 ≤ T.space text.old }
+    ensures { (level : ℕ) (payload : List ℕ) → T.content text.new ≡ T.content text.old ++ line_text (grant_sent head level offset prio payload) }
 {
     add_head(text, head, b" GRANT ");
     add_spaced(text, offset);
@@ -193,10 +192,10 @@ fn spaced_kind(body: &Body) -> &'static [u8]
 
 // Adds calls, each after a space.
 #[inline(always)]
-fn add_calls(text: &mut ShortLine, calls: &[(u32, u32)])
-    requires { array_vec_len text.old + 22 * length calls.now + 20 ≤ 256 }
-    ensures items { text.new.items ≡ text.old.items ++ spaced_text (map call_word calls.now) }
-    ensures len { array_vec_len text.new ≤ array_vec_len text.old + 22 * length calls.now }
+fn add_calls<T: LineBuffer>(text: &mut T, calls: &[(u32, u32)])
+    requires { 22 * length calls.now + 20 ≤ T.space text.old }
+    ensures items { T.content text.new ≡ T.content text.old ++ spaced_text (map call_word calls.now) }
+    ensures len { T.space text.old ≤ T.space text.new + 22 * length calls.now }
 {
     for (inc, seq) in calls {
         add(text, b" ");
@@ -206,11 +205,11 @@ fn add_calls(text: &mut ShortLine, calls: &[(u32, u32)])
 
 // Adds what a packet says, each word after a space.
 #[inline(always)]
-fn add_bare(text: &mut ShortLine, body: &Body)
+fn add_bare<T: LineBuffer>(text: &mut T, body: &Body)
     requires bare { IsBare body.now }
-    requires room { array_vec_len text.old ≤ 148 }
-    ensures items { (level : ℕ) (payload : List ℕ) → text.new.items ≡ text.old.items ++ spaced_text (body_words level body.now payload) }
-    ensures len { array_vec_len text.new ≤ array_vec_len text.old + 88 }
+    requires room { 108 ≤ T.space text.old }
+    ensures items { (level : ℕ) (payload : List ℕ) → T.content text.new ≡ T.content text.old ++ spaced_text (body_words level body.now payload) }
+    ensures len { T.space text.old ≤ T.space text.new + 88 }
 {
     match *body {
         Body::Resend { from, to, prio } => {
@@ -226,10 +225,10 @@ fn add_bare(text: &mut ShortLine, body: &Body)
 }
 
 /// Makes the line of a RESEND, BUSY, UNKNOWN, NEED_ACK or ACK.
-pub(crate) fn bare_line(text: &mut ShortLine, head: Head, body: &Body)
-    requires empty { text.old.items ≡ [] }
+pub(crate) fn bare_line<T: LineBuffer>(text: &mut T, head: Head, body: &Body)
+    requires room { 256 ≤ T.space text.old }
     requires bare { IsBare body.now }
-    ensures { (level : ℕ) (payload : List ℕ) → text.new.items ≡ line_text (packet_sent head level body.now payload) }
+    ensures { (level : ℕ) (payload : List ℕ) → T.content text.new ≡ T.content text.old ++ line_text (packet_sent head level body.now payload) }
 {
     add_head(text, head, spaced_kind(body));
     add_bare(text, body);
@@ -238,10 +237,10 @@ pub(crate) fn bare_line(text: &mut ShortLine, head: Head, body: &Body)
 
 // Adds the numbers of a piece, and a space.
 #[inline(always)]
-fn add_numbers<const N: usize>(text: &mut ArrayVec<u8, N>, piece: Piece)
-    requires { array_vec_len text.old + 106 ≤ N }
-    ensures items { text.new.items ≡ text.old.items ++ numbers_text piece }
-    ensures len { array_vec_len text.new ≤ array_vec_len text.old + 106 }
+fn add_numbers<T: LineBuffer>(text: &mut T, piece: Piece)
+    requires { 106 ≤ T.space text.old }
+    ensures items { T.content text.new ≡ T.content text.old ++ numbers_text piece }
+    ensures len { T.space text.old ≤ T.space text.new + 106 }
 {
     add_spaced(text, u64::from(piece.level));
     add_spaced(text, u64::from(piece.size));
@@ -253,10 +252,10 @@ fn add_numbers<const N: usize>(text: &mut ArrayVec<u8, N>, piece: Piece)
 
 // Adds the numbers of a piece and what it acknowledges, and a space.
 #[inline(always)]
-fn add_piece<const N: usize>(text: &mut ArrayVec<u8, N>, piece: Piece)
-    requires { array_vec_len text.old + 148 ≤ N }
-    ensures items { text.new.items ≡ text.old.items ++ piece_text piece }
-    ensures len { array_vec_len text.new ≤ array_vec_len text.old + 148 }
+fn add_piece<T: LineBuffer>(text: &mut T, piece: Piece)
+    requires { 148 ≤ T.space text.old }
+    ensures items { T.content text.new ≡ T.content text.old ++ piece_text piece }
+    ensures len { T.space text.old ≤ T.space text.new + 148 }
 {
     add_numbers(text, piece);
     add_ack(text, piece.ack);
@@ -264,25 +263,23 @@ fn add_piece<const N: usize>(text: &mut ArrayVec<u8, N>, piece: Piece)
 }
 
 /// Makes the numbers of a piece of a message, with a space after them.
-pub(crate) fn piece_numbers<const N: usize>(text: &mut ArrayVec<u8, N>, head: Head, piece: Piece)
-    requires empty { text.old.items ≡ [] }
-    requires room { 311 ≤ N }
-    ensures { text.new.items ≡ head_text head (codes " DATA ") ++ piece_text piece }
+pub(crate) fn piece_numbers<T: LineBuffer>(text: &mut T, head: Head, piece: Piece)
+    requires { 311 ≤ T.space text.old }
+    ensures { T.content text.new ≡ T.content text.old ++ head_text head (codes " DATA ") ++ piece_text piece }
 {
     add_head(text, head, b" DATA ");
     add_piece(text, piece);
 }
 
 /// Makes the line of a piece of a message.
-pub(crate) fn piece_line<const N: usize>(
-    text: &mut ArrayVec<u8, N>,
+pub(crate) fn piece_line<T: LineBuffer>(
+    text: &mut T,
     head: Head,
     piece: Piece,
     payload: &[u8],
 )
-    requires empty { text.old.items ≡ [] }
-    requires room { 2 * length payload.now + 312 ≤ N }
-    ensures { text.new.items ≡ line_text (piece_sent head piece payload.now) }
+    requires { 2 * length payload.now + 312 ≤ T.space text.old }
+    ensures { T.content text.new ≡ T.content text.old ++ line_text (piece_sent head piece payload.now) }
 {
     add_head(text, head, b" DATA ");
     add_piece(text, piece);

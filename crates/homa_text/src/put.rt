@@ -1,5 +1,5 @@
 // Lines of entries that are written: the frequent ones at once, any other word by word.
-ghost use Rattle.std.specs.Prelude.{◌≡◌, ◌≤◌, ◌<◌, ◌+◌, [], true, length};
+ghost use Rattle.std.specs.Prelude.{◌≡◌, ◌≤◌, ◌<◌, ◌+◌, ◌++◌, [], true, length};
 ghost use Rattle.homa_io.specs.Writing.{IsWritten};
 ghost use Rattle.homa_plain.specs.Entries.{PlainCall, PlainInject, PlainRun, PlainDone, plain};
 ghost use Rattle.homa_plain.specs.Text.{line_text};
@@ -17,7 +17,7 @@ use crate::frequent_lines::{
 use arrayvec::ArrayVec;
 use homa_io::{Sink, WriteFailed, write_all};
 use homa_plain::{Body, CallId, Entry, HostId};
-use written_lines::{Held, append, put_hex, put_line};
+use written_lines::{Held, LineBuffer, append, put_hex, put_line};
 
 // Room for the line of an entry of few bytes.
 const SMALL: usize = 1024;
@@ -205,9 +205,9 @@ fn put_messages<K: Sink>(sink: &mut K, entry: &Entry<'_>) -> Result<(), WriteFai
 }
 
 // Makes a text the line of an entry of a few numbers. False where it is another entry.
-fn add_few(text: &mut ShortLine, entry: &Entry<'_>) -> bool
-    requires { text.old.items ≡ [] }
-    ensures { result ≡ true → text.new.items ≡ line_text (plain entry.now) }
+fn add_few<T: LineBuffer>(text: &mut T, entry: &Entry<'_>) -> bool
+    requires { 256 ≤ T.space text.old }
+    ensures { result ≡ true → T.content text.new ≡ T.content text.old ++ line_text (plain entry.now) }
 {
     match *entry {
         Entry::Clock { tick } => clock_line(text, tick),

@@ -2,9 +2,8 @@
 ghost use Rattle.std.specs.Prelude.{◌≡◌, ◌≤◌, ◌<◌, ◌+◌, ◌*◌, ◌++◌, length, map, slice_index, decimal};
 ghost use Rattle.hex.specs.Hex.{lower_digits, encode_lower};
 ghost use Rattle.written_lines.specs.Turns.{by_turns, high_digit, low_digit};
-ghost use Rattle.arrayvec.specs.ArrayVec.{array_vec_len};
 
-use arrayvec::ArrayVec;
+use crate::LineBuffer;
 use itoa::Buffer;
 
 // How many bytes are made to digits at once.
@@ -96,12 +95,12 @@ pub(crate) fn write_digits(bytes: &[u8], out: &mut [u8])
 
 /// Adds bytes to the end of the text, which has room for them.
 #[inline(always)]
-pub fn add<const N: usize>(text: &mut ArrayVec<u8, N>, bytes: &[u8])
-    requires { array_vec_len text.old + length bytes.now ≤ N }
-    ensures items { text.new.items ≡ text.old.items ++ bytes.now }
-    ensures len { array_vec_len text.new ≡ array_vec_len text.old + length bytes.now }
+pub fn add<T: LineBuffer>(text: &mut T, bytes: &[u8])
+    requires { length bytes.now ≤ T.space text.old }
+    ensures items { T.content text.new ≡ T.content text.old ++ bytes.now }
+    ensures len { T.space text.new + length bytes.now ≡ T.space text.old }
 {
-    text.try_extend_from_slice(bytes).unwrap();
+    text.push_bytes(bytes);
 }
 
 // The decimal digit of a number below 10.
@@ -116,10 +115,11 @@ fn numeral(n: u64) -> u8
 /// Adds the decimal digits of a number, where the text has room for 20. Most have one or two.
 #[inline(always)]
 #[tactic(auto, using(crate::proofs::Texts::one_digit, crate::proofs::Texts::two_digits))]
-pub fn add_number<const N: usize>(text: &mut ArrayVec<u8, N>, n: u64)
-    requires { array_vec_len text.old + 20 ≤ N }
-    ensures items { text.new.items ≡ text.old.items ++ decimal n }
-    ensures len { array_vec_len text.new ≤ array_vec_len text.old + 20 }
+pub fn add_number<T: LineBuffer>(text: &mut T, n: u64)
+    requires { 20 ≤ T.space text.old }
+    ensures items { T.content text.new ≡ T.content text.old ++ decimal n }
+    ensures len { T.space text.new + length (decimal n) ≡ T.space text.old }
+    ensures few { length (decimal n) ≤ 20 }
 {
     if n < 10 {
         return add(text, &[numeral(n)]);
@@ -128,28 +128,27 @@ pub fn add_number<const N: usize>(text: &mut ArrayVec<u8, N>, n: u64)
         return add(text, &[numeral(n / 10), numeral(n % 10)]);
     }
     let mut buffer = Buffer::new();
-    text.try_extend_from_slice(buffer.format(n).as_bytes())
-        .unwrap();
+    add(text, buffer.format(n).as_bytes());
 }
 
 // Adds fewer bytes than a part has, in hex.
-fn add_chunk<const N: usize>(text: &mut ArrayVec<u8, N>, bytes: &[u8])
+fn add_chunk<T: LineBuffer>(text: &mut T, bytes: &[u8])
     requires few { length bytes.now ≤ 64 }
-    requires room { array_vec_len text.old + 2 * length bytes.now ≤ N }
-    ensures items { text.new.items ≡ text.old.items ++ encode_lower bytes.now }
-    ensures len { array_vec_len text.new ≡ array_vec_len text.old + 2 * length bytes.now }
+    requires room { 2 * length bytes.now ≤ T.space text.old }
+    ensures items { T.content text.new ≡ T.content text.old ++ encode_lower bytes.now }
+    ensures len { T.space text.new + 2 * length bytes.now ≡ T.space text.old }
 {
     let mut digits = [0; 128];
     let out = &mut digits[..2 * bytes.len()];
     write_digits(bytes, out);
-    text.try_extend_from_slice(out).unwrap();
+    add(text, out);
 }
 
 /// Adds bytes in hex, where the text has room for two digits of each.
-pub fn add_hex<const N: usize>(text: &mut ArrayVec<u8, N>, bytes: &[u8])
-    requires { array_vec_len text.old + 2 * length bytes.now ≤ N }
-    ensures items { text.new.items ≡ text.old.items ++ encode_lower bytes.now }
-    ensures len { array_vec_len text.new ≡ array_vec_len text.old + 2 * length bytes.now }
+pub fn add_hex<T: LineBuffer>(text: &mut T, bytes: &[u8])
+    requires { 2 * length bytes.now ≤ T.space text.old }
+    ensures items { T.content text.new ≡ T.content text.old ++ encode_lower bytes.now }
+    ensures len { T.space text.new + 2 * length bytes.now ≡ T.space text.old }
 {
     let mut done = 0;
     while done < bytes.len() {

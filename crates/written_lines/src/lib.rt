@@ -8,9 +8,11 @@
 mod adding;
 mod held;
 mod line;
+mod line_buffer;
 mod written;
 
 pub use adding::{add, add_hex, add_number};
 pub use held::{Held, append, put_hex};
 pub use line::put_line;
+pub use line_buffer::LineBuffer;
 pub use written::Word;

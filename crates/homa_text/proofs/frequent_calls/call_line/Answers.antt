@@ -1,11 +1,8 @@
-use Rattle.std.proofs.Common.{◌∙◌}
-use Rattle.homa_text.proofs.LineParts.{more, call_text}
+use Rattle.homa_text.proofs.LineParts.{six_parts, call_text}
 use Rattle.homa_text.proofs.frequent_calls.call_line.Goals as goal
 
 pub returns : goal.returns
 returns g c =
-    more _ _ _ _ (more _ _ _ _
-    (more _ _ _ _
-    (more _ _ _ _ (more _ _ _ _ (more _ _ _ _ c.requires.empty c.add.ensures.items) c.add_spaced_id.ensures.items) c.add_spaced_host.ensures.items)
-    c.add_spaced.ensures.items) c.add_spaced_bytes.ensures.items) c.add-2.ensures.items
-    ∙ call_text c.args.id c.args.server c.args.service c.args.bytes.now
+    six_parts _ _ _ _ _ _ _ _ _ _ _ _ _ _
+    c.add.ensures.items c.add_spaced_id.ensures.items c.add_spaced_host.ensures.items c.add_spaced.ensures.items c.add_spaced_bytes.ensures.items c.add-2.ensures.items
+    (call_text c.args.id c.args.server c.args.service c.args.bytes.now)

@@ -1,8 +1,8 @@
-use Rattle.std.proofs.Common.{◌∙◌}
-use Rattle.homa_text.proofs.LineParts.{four, piece_line_text}
+use Rattle.homa_text.proofs.LineParts.{four_parts, piece_line_text}
 use Rattle.homa_text.proofs.frequent_lines.piece_line.Goals as goal
 
 pub returns : goal.returns
 returns g c =
-    four _ _ _ _ _ _ _ _ _ c.requires.empty c.add_head.ensures.items c.add_piece.ensures.items c.add_bytes.ensures.items c.add.ensures.items
-    ∙ piece_line_text c.args.head c.args.piece c.args.payload.now
+    four_parts _ _ _ _ _ _ _ _ _ _
+    c.add_head.ensures.items c.add_piece.ensures.items c.add_bytes.ensures.items c.add.ensures.items
+    (piece_line_text c.args.head c.args.piece c.args.payload.now)
