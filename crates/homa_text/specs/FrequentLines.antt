@@ -1,10 +1,10 @@
 -- Parts of the line of a packet.
-use Rattle.std.specs.Prelude.{ℕ, List, ◌∷◌, ◌++◌, codes}
+use Rattle.std.specs.Prelude.{ℕ, ◌+◌, List, ◌∷◌, ◌++◌, length, codes}
 use Rattle.std.specs.Fmt.{decimal}
 use Rattle.std.specs.List.{flat_map}
 use Rattle.homa_plain.specs.declared.packet.Body.{Body}
 use Rattle.homa_plain.specs.declared.packet.Body.TheVariants as body
-use Rattle.homa_plain.specs.Entries.{PlainEntry, PlainSend}
+use Rattle.homa_plain.specs.Entries.{PlainEntry, PlainSend, PlainCall, PlainRun, PlainDone, PlainInject}
 use Rattle.homa_plain.specs.Text.{id_word, role_word, route_word, ack_word}
 use Rattle.homa_text.specs.declared.frequent_lines.Head.{Head}
 use Rattle.homa_text.specs.declared.frequent_lines.Piece.{Piece}
@@ -48,3 +48,12 @@ IsBare other = ⊥
 -- words, each after a space
 abbrev pub spaced_text : List (List ℕ) → List ℕ
 spaced_text words = flat_map (λ (word : List ℕ). 32 ∷ word) words
+
+-- how many bytes the line of a packet, a call or an injection shows in hex
+abbrev pub shown_bytes : PlainEntry → ℕ
+shown_bytes (PlainSend number from to inc role id level body payload) = length payload
+shown_bytes (PlainCall id server service bytes) = length bytes
+shown_bytes (PlainRun host id service request response hold) = length request + length response
+shown_bytes (PlainDone id bytes) = length bytes
+shown_bytes (PlainInject host bytes) = length bytes
+shown_bytes other = 0

@@ -7,6 +7,7 @@
 mod entry_words;
 mod fault_words;
 mod frequent_calls;
+mod frequent_entries;
 mod frequent_lines;
 mod put;
 

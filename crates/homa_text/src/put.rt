@@ -1,5 +1,5 @@
 // Lines of entries that are written: the frequent ones at once, any other word by word.
-ghost use Rattle.std.specs.Prelude.{◌≡◌, ◌≤◌, ◌<◌, ◌+◌, ◌++◌, [], true, length};
+ghost use Rattle.std.specs.Prelude.{◌≡◌, ◌≤◌, ◌<◌, ◌+◌, length};
 ghost use Rattle.homa_io.specs.Writing.{IsWritten};
 ghost use Rattle.homa_plain.specs.Entries.{PlainCall, PlainInject, PlainRun, PlainDone, plain};
 ghost use Rattle.homa_plain.specs.Text.{line_text};
@@ -7,17 +7,15 @@ ghost use Rattle.homa_text.specs.FrequentLines.{grant_sent, piece_sent, packet_s
 ghost use Rattle.homa_plain.specs.Told.{HasLine};
 
 use crate::entry_words::words_of_entry;
-use crate::frequent_calls::{
-    bury_line, call_line, done_line, free_line, inject_line, junk_line, run_line,
-};
+use crate::frequent_calls::{call_line, done_line, inject_line, run_line};
+use crate::frequent_entries::add_few;
 use crate::frequent_lines::{
-    Head, Piece, ShortLine, bare_line, clock_line, deliver_line, grant_line, piece_line,
-    piece_numbers,
+    Head, Piece, ShortLine, bare_line, grant_line, piece_line, piece_numbers,
 };
 use arrayvec::ArrayVec;
 use homa_io::{Sink, WriteFailed, write_all};
 use homa_plain::{Body, CallId, Entry, HostId};
-use written_lines::{Held, LineBuffer, append, put_hex, put_line};
+use written_lines::{Held, append, put_hex, put_line};
 
 // Room for the line of an entry of few bytes.
 const SMALL: usize = 1024;
@@ -202,22 +200,6 @@ fn put_messages<K: Sink>(sink: &mut K, entry: &Entry<'_>) -> Result<(), WriteFai
         Entry::Inject { host, bytes } if bytes.len() <= FEW => put_inject(sink, host, bytes),
         _ => put_words_of(sink, entry),
     }
-}
-
-// Makes a text the line of an entry of a few numbers. False where it is another entry.
-fn add_few<T: LineBuffer>(text: &mut T, entry: &Entry<'_>) -> bool
-    requires { 256 ≤ T.space text.old }
-    ensures { result ≡ true → T.content text.new ≡ T.content text.old ++ line_text (plain entry.now) }
-{
-    match *entry {
-        Entry::Clock { tick } => clock_line(text, tick),
-        Entry::Deliver { packet } => deliver_line(text, packet),
-        Entry::Junk { host } => junk_line(text, host),
-        Entry::Bury { host, id, until } => bury_line(text, host, id, until),
-        Entry::Free { host, id } => free_line(text, host, id),
-        _ => return false,
-    }
-    true
 }
 
 // Writes the line of an entry of numbers and words.
