@@ -1,12 +1,21 @@
 -- What a sink that holds lines back has.
 use Rattle.std.specs.Prelude.{◌≡◌, ◌≤◌, ℕ, ◌-◌, length, Option, List, Result, OnOk, OnErr, drop, vec_capacity}
 use Rattle.homa_io.specs.Outside.{HasRisen, Grows}
-use Rattle.homa_io.specs.declared.held.Room.{Room}
+use Rattle.homa_io.specs.declared.held_text.Room.{Room}
+use Rattle.homa_io.specs.declared.held_text.HeldText.{HeldText}
 use Rattle.homa_io.specs.declared.held.HeldSink.{HeldSink}
 
 -- how many bytes the room has
 abbrev pub room_size : Room → ℕ
 room_size room = vec_capacity room.bytes
+
+-- the bytes of a text that are held
+abbrev pub text_bytes : HeldText → List ℕ
+text_bytes text = drop text.sent text.bytes.items
+
+-- how many more bytes fit in it, after those that are held
+abbrev pub text_space : HeldText → ℕ
+text_space text = 65536 - length text.bytes.items
 
 -- the sink below
 abbrev pub sink_below : {K : Type 0} → HeldSink K → K
@@ -14,11 +23,11 @@ sink_below held = held.sink
 
 -- the bytes that are held
 abbrev pub held_bytes : {K : Type 0} → HeldSink K → List ℕ
-held_bytes held = drop held.sent held.bytes.items
+held_bytes held = text_bytes held.text
 
 -- how many more bytes fit after those that are held
 abbrev pub space_left : {K : Type 0} → HeldSink K → ℕ
-space_left held = 65536 - length held.bytes.items
+space_left held = text_space held.text
 
 -- how many lines are still passed on at once
 abbrev pub direct_lines : {K : Type 0} → HeldSink K → ℕ

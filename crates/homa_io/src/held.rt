@@ -1,35 +1,12 @@
 // A sink that holds lines back, so that many of them go out in one write.
-ghost use Rattle.std.specs.Prelude.{◌≡◌, ◌≤◌, ◌<◌, ◌+◌, ◌-◌, ◌++◌, [], length, take, vec_capacity, nat_eq, IfOk, OnOk, OnErr, if◌then◌else◌};
+ghost use Rattle.std.specs.Prelude.{◌≡◌, ◌≤◌, ◌<◌, ◌+◌, ◌-◌, ◌↔◌, ◌++◌, Ok, true, false, [], length, take, nat_eq, IfOk, OnOk, OnErr, if◌then◌else◌};
 ghost use Rattle.homa_io.specs.Outside.{appended, Grows};
 
-use crate::{NoMemory, Sink, WriteFailed};
-use std::alloc::Global;
-
-// The most bytes that are held.
-const ROOM: usize = 65536;
+use crate::held_text::ROOM;
+use crate::{HeldText, Room, Sink, WriteFailed};
 
 // How many lines are passed on at once.
 const DIRECT: u32 = 64;
-
-/// Room for the lines that are held, which is taken before a sink is lent.
-#[derive(Drop)]
-pub struct Room {
-    bytes: Vec<u8>,
-    ghost reserved: { 65536 ≤ vec_capacity bytes },
-}
-
-impl Room {
-    ghost use Rattle.homa_io.specs.Held.{room_size};
-
-    /// Takes room for 65,536 bytes.
-    pub fn new(alloc: Global) -> Result<Room, NoMemory>
-        ensures { IfOk result (λ room. 65536 ≤ room_size room) }
-    {
-        Ok(Room {
-            bytes: Vec::with_capacity(alloc, ROOM)?,
-        })
-    }
-}
 
 /// A sink over another one. It passes the first 64 lines on at once. What comes later it holds
 /// back, up to 65,536 bytes, until a line doesn't fit after them or `flush` is called. It takes no
@@ -38,14 +15,10 @@ impl Room {
 #[derive(Drop)]
 pub struct HeldSink<K> {
     sink: K,
-    bytes: Vec<u8>,
-    // How many of `bytes` went out already, before a fault.
-    sent: usize,
+    /// The text that is held. Bytes that `make_room` made room for may be added here.
+    pub text: HeldText,
     // How many lines are still passed on at once.
     direct: u32,
-    ghost within: { sent ≤ length bytes.items },
-    ghost most: { length bytes.items ≤ 65536 },
-    ghost reserved: { 65536 ≤ vec_capacity bytes },
 }
 
 impl<K: Sink + Drop> HeldSink<K> {
@@ -58,12 +31,9 @@ impl<K: Sink + Drop> HeldSink<K> {
         ensures space { space_left result ≡ 65536 }
         ensures direct { direct_lines result ≡ 64 }
     {
-        let mut bytes = room.bytes;
-        bytes.clear();
         HeldSink {
             sink,
-            bytes,
-            sent: 0,
+            text: HeldText::over(room),
             direct: DIRECT,
         }
     }
@@ -92,11 +62,11 @@ impl<K: Sink + Drop> HeldSink<K> {
 
         ensures below { PassesOn K.taken K.faults K.is_same result (sink_below self.old) (sink_below self.new) }
     {
-        while self.sent < self.bytes.len() {
-            self.sent += self.sink.write(&self.bytes[self.sent..])?;
+        while !self.text.rest().is_empty() {
+            let n = self.sink.write(self.text.rest())?;
+            self.text.went_out(n);
         }
-        self.bytes.clear();
-        self.sent = 0;
+        self.text.clear();
         Ok(())
     }
 
@@ -120,31 +90,32 @@ impl<K: Sink + Drop> HeldSink<K> {
         Ok(n)
     }
 
-    // Writes what is held, unless so many bytes fit after it.
-    fn make_room(&mut self, n: usize) -> Result<(), WriteFailed>
-        requires { n ≤ 65536 }
-        ensures space { OnOk result (n ≤ space_left self.new) }
+    /// Makes room for so many more bytes in `text`: it writes what is held if they don't fit after it.
+    /// False, and nothing is done, while the first 64 lines are passed on at once, and for more than
+    /// 65,536 bytes: then `write` takes them. After an error nothing of what is held is lost.
+    pub fn make_room(&mut self, n: usize) -> Result<bool, WriteFailed>
+        ensures room { IfOk result (λ made. made ≡ true → n ≤ space_left self.new) }
+        ensures when { IfOk result (λ made. (made ≡ true) ↔ ((direct_lines self.old ≡ 0) × (n ≤ 65536))) }
+        ensures none { result ≡ Ok false → self.new ≡ self.old }
         ensures waits { n ≤ space_left self.old → self.new ≡ self.old }
-        ensures sent { OnOk result (space_left self.old < n → K.taken (sink_below self.new) ≡ appended (K.taken (sink_below self.old)) (held_bytes self.old)) }
-        ensures none { OnOk result (space_left self.old < n → held_bytes self.new ≡ []) }
-        ensures whole { appended (K.taken (sink_below self.new)) (held_bytes self.new) ≡ appended (K.taken (sink_below self.old)) (held_bytes self.old) }
+
+        // Where they don't fit after what is held, all of it goes out.
+        ensures sent { IfOk result (λ made. made ≡ true → space_left self.old < n →
+            K.taken (sink_below self.new) ≡ appended (K.taken (sink_below self.old)) (held_bytes self.old)) }
+        ensures emptied { IfOk result (λ made. made ≡ true → space_left self.old < n → held_bytes self.new ≡ []) }
+
+        ensures whole { appended (K.taken (sink_below self.new)) (held_bytes self.new)
+            ≡ appended (K.taken (sink_below self.old)) (held_bytes self.old) }
         ensures direct { direct_lines self.new ≡ direct_lines self.old }
         ensures below { PassesOn K.taken K.faults K.is_same result (sink_below self.old) (sink_below self.new) }
     {
-        if n <= ROOM - self.bytes.len() {
-            return Ok(());
+        if self.direct > 0 || n > ROOM {
+            return Ok(false);
         }
-        self.flush()
-    }
-
-    // Holds these bytes too, which must fit.
-    fn hold(&mut self, bytes: &[u8])
-        requires { length bytes.now ≤ space_left self.old }
-        ensures held { held_bytes self.new ≡ held_bytes self.old ++ bytes.now }
-        ensures below { sink_below self.new ≡ sink_below self.old }
-        ensures direct { direct_lines self.new ≡ direct_lines self.old }
-    {
-        self.bytes.extend_from_slice(bytes).unwrap();
+        if n > self.text.space() {
+            self.flush()?;
+        }
+        Ok(true)
     }
 }
 
@@ -201,12 +172,11 @@ impl<K: Sink + Drop> Sink for HeldSink<K> {
         // So much is lost at most where the sink is dropped and not flushed.
         ensures most { length (held_bytes self.new) ≤ 65536 }
     {
-        if self.direct > 0 || bytes.len() > ROOM {
+        if !self.make_room(bytes.len())? {
             self.flush()?;
             return self.pass(bytes);
         }
-        self.make_room(bytes.len())?;
-        self.hold(bytes);
+        self.text.add(bytes);
         Ok(bytes.len())
     }
 }

@@ -10,6 +10,7 @@
 
 mod faults;
 mod held;
+mod held_text;
 mod input;
 mod memory;
 mod real;
@@ -17,7 +18,8 @@ mod sink;
 mod source;
 mod sure;
 
-pub use held::{HeldSink, Room};
+pub use held::HeldSink;
+pub use held_text::{HeldText, Room};
 pub use memory::{MemSink, MemSource};
 pub use real::{StdSink, StdSource};
 pub use sink::{Sink, WriteFailed, write_all};

@@ -1,15 +1,7 @@
-use Rattle.std.proofs.Common.{rules}
-use Rattle.homa_io.specs.Growing.{grows_on}
+use Rattle.homa_io.proofs.Passing.{passes_then}
 use Rattle.homa_io.proofs.held.HeldSinkSink.write.Goals as goal
 
-pub returns-then-self-gt0-clause-below : goal.returns-then-self-gt0-clause-below
-returns-then-self-gt0-clause-below g c =
-    let f = c.flush.ensures.below in
-    let p = c.pass.ensures.below in
-    record {
-      grows = grows_on _ _ _ f.grows p.grows;
-      risen = search rules;
-      quiet = search rules;
-      never_falls = search rules;
-      same = g.met.K.Sink.same_on _ _ _ f.same p.same;
-    }
+pub returns-then-not-branch-clause-below : goal.returns-then-not-branch-clause-below
+returns-then-not-branch-clause-below g c =
+    let on = g.met.K.Sink.same_on in
+    passes_then on c.in_ok-make_room.ensures.below (passes_then on c.in_ok-flush.ensures.below c.pass.ensures.below)
