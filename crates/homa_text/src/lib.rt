@@ -9,6 +9,8 @@ mod fault_words;
 mod frequent_calls;
 mod frequent_entries;
 mod frequent_lines;
+mod held_entries;
 mod put;
 
+pub use held_entries::put_held;
 pub use put::put_entry;

@@ -1,8 +1,10 @@
 // A text at whose end bytes are added.
 ghost use Rattle.std.specs.Prelude.{◌≡◌, ◌≤◌, ◌+◌, ◌-◌, ◌++◌, ℕ, List, length};
 ghost use Rattle.arrayvec.specs.ArrayVec.{array_vec_len};
+ghost use Rattle.homa_io.specs.Held.{text_bytes, text_space};
 
 use arrayvec::ArrayVec;
+use homa_io::HeldText;
 
 /// A text at whose end bytes are added, as long as there is room for them.
 pub trait LineBuffer {
@@ -29,5 +31,16 @@ impl<const N: usize> LineBuffer for ArrayVec<u8, N> {
         // It has at most N bytes.
         let _room = self.remaining_capacity();
         self.try_extend_from_slice(bytes).unwrap();
+    }
+}
+
+impl LineBuffer for HeldText {
+    ghost content = { text_bytes };
+
+    ghost space = { text_space };
+
+    #[inline(always)]
+    fn push_bytes(&mut self, bytes: &[u8]) {
+        self.add(bytes);
     }
 }
