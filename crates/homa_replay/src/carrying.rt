@@ -29,7 +29,7 @@ use homa_text::put_entry;
 use std::alloc::Global;
 
 // Carries out a line behind `go`, and answers why the world refuses it, if it does.
-fn play_line<P: ReplayWorld, K: Sink>(
+fn play_line<P: ReplayWorld, K: FlushSink>(
     alloc: Global,
     world: &mut P,
     sink: &mut K,

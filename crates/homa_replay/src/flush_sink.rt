@@ -1,8 +1,14 @@
 // A sink that may hold lines back.
 ghost use Rattle.std.specs.Prelude.{◌≡◌, OnOk, OnErr, [], ℕ, List};
 ghost use Rattle.homa_io.specs.Outside.{HasRisen};
+ghost use Rattle.homa_io.specs.Writing.{IsWritten};
+ghost use Rattle.homa_plain.specs.Entries.{plain};
+ghost use Rattle.homa_plain.specs.Text.{line_text};
+ghost use Rattle.homa_plain.specs.Told.{HasLine};
 
 use homa_io::{HeldSink, Sink, WriteFailed};
+use homa_plain::Entry;
+use homa_text::put_entry;
 
 /// A sink that may hold lines back. What it took includes what it holds.
 pub trait FlushSink: Sink {
@@ -16,6 +22,12 @@ pub trait FlushSink: Sink {
         ensures risen { OnErr result (HasRisen (Self.faults self.old) (Self.faults self.new)) }
         ensures quiet { OnOk result (Self.faults self.new ≡ Self.faults self.old) }
         ensures same { Self.is_same self.old self.new };
+
+    /// Writes the line of an entry, as `put_entry` does. A sink that holds lines back may make the line where it holds
+    /// them.
+    fn put(&mut self, entry: &Entry<'_>) -> Result<(), WriteFailed>
+        requires { HasLine (plain entry.now) }
+        ensures { IsWritten Self.taken Self.faults Self.is_same result self.old self.new (line_text (plain entry.now)) };
 }
 
 impl<K: FlushSink> FlushSink for &mut K {
@@ -23,6 +35,10 @@ impl<K: FlushSink> FlushSink for &mut K {
 
     fn flush(&mut self) -> Result<(), WriteFailed> {
         (**self).flush()
+    }
+
+    fn put(&mut self, entry: &Entry<'_>) -> Result<(), WriteFailed> {
+        (**self).put(entry)
     }
 }
 
@@ -33,5 +49,9 @@ impl<K: Sink + Drop> FlushSink for HeldSink<K> {
 
     fn flush(&mut self) -> Result<(), WriteFailed> {
         HeldSink::flush(self)
+    }
+
+    fn put(&mut self, entry: &Entry<'_>) -> Result<(), WriteFailed> {
+        put_entry(self, entry)
     }
 }

@@ -8,8 +8,7 @@ ghost use Rattle.homa_replay.specs.Playing.{Plays};
 ghost use Rattle.homa_replay.specs.Faults.{OnlyWrites};
 
 use crate::print::put_entries;
-use crate::{ReplayWorld, Stop};
-use homa_io::Sink;
+use crate::{FlushSink, ReplayWorld, Stop};
 use homa_plain::{Event, HostId, WorldFault};
 use std::alloc::Global;
 
@@ -21,7 +20,7 @@ fn is_memory(fault: &WorldFault) -> bool
 }
 
 /// Does an event and prints its entries, or answers why it is refused.
-pub(crate) fn play<P: ReplayWorld, K: Sink>(
+pub(crate) fn play<P: ReplayWorld, K: FlushSink>(
     alloc: Global,
     world: &mut P,
     sink: &mut K,
@@ -46,7 +45,7 @@ pub(crate) fn play<P: ReplayWorld, K: Sink>(
 }
 
 // A turn of each host.
-fn play_turns<P: ReplayWorld, K: Sink>(
+fn play_turns<P: ReplayWorld, K: FlushSink>(
     alloc: Global,
     world: &mut P,
     sink: &mut K,
@@ -73,7 +72,7 @@ fn play_turns<P: ReplayWorld, K: Sink>(
 }
 
 // The clock goes on, and then each host has a turn.
-fn play_tick<P: ReplayWorld, K: Sink>(
+fn play_tick<P: ReplayWorld, K: FlushSink>(
     alloc: Global,
     world: &mut P,
     sink: &mut K,
@@ -96,7 +95,7 @@ fn play_tick<P: ReplayWorld, K: Sink>(
 }
 
 /// So many ticks.
-pub(crate) fn play_ticks<P: ReplayWorld, K: Sink>(
+pub(crate) fn play_ticks<P: ReplayWorld, K: FlushSink>(
     alloc: Global,
     world: &mut P,
     sink: &mut K,

@@ -3,12 +3,11 @@ ghost use Rattle.std.specs.List.{flat_map};
 ghost use Rattle.homa_io.specs.Writing.{IsWritten};
 ghost use Rattle.homa_plain.specs.Text.{line_text};
 
-use crate::ReplayWorld;
-use homa_io::{Sink, WriteFailed};
-use homa_text::put_entry;
+use crate::{FlushSink, ReplayWorld};
+use homa_io::WriteFailed;
 
 /// Prints the entries of the last event.
-pub(crate) fn put_entries<P: ReplayWorld, K: Sink>(
+pub(crate) fn put_entries<P: ReplayWorld, K: FlushSink>(
     world: &P,
     sink: &mut K,
 ) -> Result<(), WriteFailed>
@@ -16,7 +15,7 @@ pub(crate) fn put_entries<P: ReplayWorld, K: Sink>(
 {
     let count = world.entries();
     for i in 0..count {
-        put_entry(sink, &world.entry(i))?;
+        sink.put(&world.entry(i))?;
     }
     Ok(())
 }
