@@ -8,7 +8,7 @@ ghost use Rattle.homa_plain.specs.Told.{HasLine};
 
 use homa_io::{HeldSink, Sink, WriteFailed};
 use homa_plain::Entry;
-use homa_text::put_entry;
+use homa_text::put_held;
 
 /// A sink that may hold lines back. What it took includes what it holds.
 pub trait FlushSink: Sink {
@@ -52,6 +52,6 @@ impl<K: Sink + Drop> FlushSink for HeldSink<K> {
     }
 
     fn put(&mut self, entry: &Entry<'_>) -> Result<(), WriteFailed> {
-        put_entry(self, entry)
+        put_held(self, entry)
     }
 }

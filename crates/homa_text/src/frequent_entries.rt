@@ -29,7 +29,9 @@ pub(crate) fn room_of(entry: &Entry<'_>) -> Option<usize>
         Entry::Done { bytes, .. } => bytes.len(),
         Entry::Inject { bytes, .. } => bytes.len(),
         Entry::Run {
-            request, response, ..
+            request,
+            response,
+            ..
         } => request.len().saturating_add(response.len()),
         _ => 0,
     };

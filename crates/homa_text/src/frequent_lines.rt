@@ -272,12 +272,7 @@ pub(crate) fn piece_numbers<T: LineBuffer>(text: &mut T, head: Head, piece: Piec
 }
 
 /// Makes the line of a piece of a message.
-pub(crate) fn piece_line<T: LineBuffer>(
-    text: &mut T,
-    head: Head,
-    piece: Piece,
-    payload: &[u8],
-)
+pub(crate) fn piece_line<T: LineBuffer>(text: &mut T, head: Head, piece: Piece, payload: &[u8])
     requires { 2 * length payload.now + 312 ≤ T.space text.old }
     ensures { T.content text.new ≡ T.content text.old ++ line_text (piece_sent head piece payload.now) }
 {
