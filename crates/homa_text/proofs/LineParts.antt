@@ -34,7 +34,8 @@ five_parts old i1 i2 i3 i4 i5 x1 x2 x3 x4 x5 all e1 e2 e3 e4 e5 same =
     part_on i4 i5 old (x1 ++ (x2 ++ (x3 ++ x4))) x5 all front e5 (joined ∙ same)
 
 -- six parts that were added
-pub six_parts : (old i1 i2 i3 i4 i5 i6 x1 x2 x3 x4 x5 x6 all : List ℕ) → i1 ≡ old ++ x1 → i2 ≡ i1 ++ x2 → i3 ≡ i2 ++ x3 → i4 ≡ i3 ++ x4 → i5 ≡ i4 ++ x5 → i6 ≡ i5 ++ x6
+pub six_parts : (old i1 i2 i3 i4 i5 i6 x1 x2 x3 x4 x5 x6 all : List ℕ) → i1 ≡ old ++ x1 → i2 ≡ i1 ++ x2 → i3 ≡ i2 ++ x3 → i4 ≡ i3 ++ x4
+    → i5 ≡ i4 ++ x5 → i6 ≡ i5 ++ x6
     → x1 ++ (x2 ++ (x3 ++ (x4 ++ (x5 ++ x6)))) ≡ all → i6 ≡ old ++ all
 six_parts old i1 i2 i3 i4 i5 i6 x1 x2 x3 x4 x5 x6 all e1 e2 e3 e4 e5 e6 same =
     let front = five_parts old i1 i2 i3 i4 i5 x1 x2 x3 x4 x5 (x1 ++ (x2 ++ (x3 ++ (x4 ++ x5)))) e1 e2 e3 e4 e5 refl in
@@ -42,7 +43,8 @@ six_parts old i1 i2 i3 i4 i5 i6 x1 x2 x3 x4 x5 x6 all e1 e2 e3 e4 e5 e6 same =
     part_on i5 i6 old (x1 ++ (x2 ++ (x3 ++ (x4 ++ x5)))) x6 all front e6 (joined ∙ same)
 
 -- seven parts that were added
-pub seven_parts : (old i1 i2 i3 i4 i5 i6 i7 x1 x2 x3 x4 x5 x6 x7 all : List ℕ) → i1 ≡ old ++ x1 → i2 ≡ i1 ++ x2 → i3 ≡ i2 ++ x3 → i4 ≡ i3 ++ x4 → i5 ≡ i4 ++ x5 → i6 ≡ i5 ++ x6 → i7 ≡ i6 ++ x7
+pub seven_parts : (old i1 i2 i3 i4 i5 i6 i7 x1 x2 x3 x4 x5 x6 x7 all : List ℕ) → i1 ≡ old ++ x1 → i2 ≡ i1 ++ x2 → i3 ≡ i2 ++ x3 → i4 ≡ i3 ++ x4
+    → i5 ≡ i4 ++ x5 → i6 ≡ i5 ++ x6 → i7 ≡ i6 ++ x7
     → x1 ++ (x2 ++ (x3 ++ (x4 ++ (x5 ++ (x6 ++ x7))))) ≡ all → i7 ≡ old ++ all
 seven_parts old i1 i2 i3 i4 i5 i6 i7 x1 x2 x3 x4 x5 x6 x7 all e1 e2 e3 e4 e5 e6 e7 same =
     let front = six_parts old i1 i2 i3 i4 i5 i6 x1 x2 x3 x4 x5 x6 (x1 ++ (x2 ++ (x3 ++ (x4 ++ (x5 ++ x6))))) e1 e2 e3 e4 e5 e6 refl in
@@ -50,7 +52,8 @@ seven_parts old i1 i2 i3 i4 i5 i6 i7 x1 x2 x3 x4 x5 x6 x7 all e1 e2 e3 e4 e5 e6 
     part_on i6 i7 old (x1 ++ (x2 ++ (x3 ++ (x4 ++ (x5 ++ x6))))) x7 all front e7 (joined ∙ same)
 
 -- eight parts that were added
-pub eight_parts : (old i1 i2 i3 i4 i5 i6 i7 i8 x1 x2 x3 x4 x5 x6 x7 x8 all : List ℕ) → i1 ≡ old ++ x1 → i2 ≡ i1 ++ x2 → i3 ≡ i2 ++ x3 → i4 ≡ i3 ++ x4 → i5 ≡ i4 ++ x5 → i6 ≡ i5 ++ x6 → i7 ≡ i6 ++ x7 → i8 ≡ i7 ++ x8
+pub eight_parts : (old i1 i2 i3 i4 i5 i6 i7 i8 x1 x2 x3 x4 x5 x6 x7 x8 all : List ℕ) → i1 ≡ old ++ x1 → i2 ≡ i1 ++ x2 → i3 ≡ i2 ++ x3 → i4 ≡ i3 ++ x4
+    → i5 ≡ i4 ++ x5 → i6 ≡ i5 ++ x6 → i7 ≡ i6 ++ x7 → i8 ≡ i7 ++ x8
     → x1 ++ (x2 ++ (x3 ++ (x4 ++ (x5 ++ (x6 ++ (x7 ++ x8)))))) ≡ all → i8 ≡ old ++ all
 eight_parts old i1 i2 i3 i4 i5 i6 i7 i8 x1 x2 x3 x4 x5 x6 x7 x8 all e1 e2 e3 e4 e5 e6 e7 e8 same =
     let front = seven_parts old i1 i2 i3 i4 i5 i6 i7 x1 x2 x3 x4 x5 x6 x7 (x1 ++ (x2 ++ (x3 ++ (x4 ++ (x5 ++ (x6 ++ x7)))))) e1 e2 e3 e4 e5 e6 e7 refl in

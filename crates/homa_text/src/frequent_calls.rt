@@ -1,5 +1,5 @@
 // Lines of calls and of datagrams that are injected, with few bytes, straight into one buffer.
-ghost use Rattle.std.specs.Prelude.{◌∷◌, ◌≡◌, ◌≤◌, ◌+◌, ◌*◌, ◌++◌, [], length};
+ghost use Rattle.std.specs.Prelude.{◌∷◌, ◌≡◌, ◌≤◌, ◌+◌, ◌*◌, ◌++◌, length};
 ghost use Rattle.homa_plain.specs.Text.{host_word, id_word, hex_word, line_text};
 ghost use Rattle.homa_plain.specs.Entries.{PlainCall, PlainInject, PlainJunk, PlainRun, PlainDone, PlainBury, PlainFree};
 

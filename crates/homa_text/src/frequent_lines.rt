@@ -1,5 +1,5 @@
 // Lines of the entries that a trace has most of, straight into one buffer.
-ghost use Rattle.std.specs.Prelude.{◌∷◌, codes, decimal, ◌≡◌, ◌≤◌, ◌+◌, ◌*◌, ◌++◌, ◌<◌, ℕ, List, [], length, map};
+ghost use Rattle.std.specs.Prelude.{◌∷◌, codes, decimal, ◌≡◌, ◌≤◌, ◌+◌, ◌*◌, ◌++◌, ◌<◌, ℕ, List, length, map};
 ghost use Rattle.homa_plain.specs.declared.packet.Body.TheVariants as body;
 ghost use Rattle.homa_plain.specs.Text.{id_word, role_word, route_word, call_word, ack_word, hex_word, kind_word, body_words, line_text};
 ghost use Rattle.homa_plain.specs.Entries.{PlainClock, PlainDeliver};

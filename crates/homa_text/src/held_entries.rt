@@ -16,7 +16,8 @@ pub fn put_held<K: Sink + Drop>(
     entry: &Entry<'_>,
 ) -> Result<(), WriteFailed>
     requires { HasLine (plain entry.now) }
-    ensures { IsWritten ⟦<HeldSink<K> as Sink>⟧.taken ⟦<HeldSink<K> as Sink>⟧.faults ⟦<HeldSink<K> as Sink>⟧.is_same result sink.old sink.new (line_text (plain entry.now)) }
+    ensures { IsWritten ⟦<HeldSink<K> as Sink>⟧.taken ⟦<HeldSink<K> as Sink>⟧.faults ⟦<HeldSink<K> as Sink>⟧.is_same
+        result sink.old sink.new (line_text (plain entry.now)) }
 {
     let Some(room) = room_of(entry) else {
         return put_entry(sink, entry);

@@ -28,7 +28,7 @@ impl<const N: usize> LineBuffer for ArrayVec<u8, N> {
 
     #[inline(always)]
     fn push_bytes(&mut self, bytes: &[u8]) {
-        // It has at most N bytes.
+        // For the proof: it has at most N bytes.
         let _room = self.remaining_capacity();
         self.try_extend_from_slice(bytes).unwrap();
     }

@@ -14,7 +14,8 @@ returns-in_err-put_hex g c =
 pub returns-in_err-append : goal.returns-in_err-append
 returns-in_err-append g c =
     let text = (head_text c.args.head (codes " DATA ") ++ piece_text c.args.piece) ++ encode_lower c.args.payload.now in
-    failed_on g.met.K.Sink.same_on [] text (10 ∷ []) [] _ c.from_residual-in_err-append.ensures.0 (rw (c.piece_numbers.ensures, c.new-text.ensures) at c.in_ok-put_hex.ensures)
+    failed_on g.met.K.Sink.same_on [] text (10 ∷ []) [] _ c.from_residual-in_err-append.ensures.0
+    (rw (c.piece_numbers.ensures, c.new-text.ensures) at c.in_ok-put_hex.ensures)
     c.in_err-append.ensures (long_line_text c.args.head c.args.piece c.args.payload.now c.requires)
 
 pub returns : goal.returns

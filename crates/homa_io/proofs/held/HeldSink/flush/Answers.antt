@@ -17,4 +17,5 @@ loop-self-preserved g c =
     }
 
 pub returns-clause-ok : goal.returns-clause-ok
-returns-clause-ok g c = all_went_out _ _ _ (text_bytes c.loop-self.self.text) (sym c.rest.ensures.rest ∙ nil_from_length _ (search rules)) c.loop-self.invariant.whole
+returns-clause-ok g c =
+    all_went_out _ _ _ (text_bytes c.loop-self.self.text) (sym c.rest.ensures.rest ∙ nil_from_length _ (search rules)) c.loop-self.invariant.whole
