@@ -1,6 +1,6 @@
 //! Laws on which a checker of one trace rests: what it has to keep of the lines before.
 //!
-//! The model: the lines before are a `View` of `homa_plain`, and a [`Spot`](specs/Spots.antt) is what it says of one
+//! The model: the lines before are a `View` of `trace_rules`, and a [`Spot`](specs/Spots.antt) is what it says of one
 //! call. No code stands here, only laws; each is the contract of a function that does nothing.
 //! Main promise: a line changes the spots of one call alone, but for a restart. What a block's delivery is taken back
 //! to is one record beside the spots. A message can leave its window only at the call that a line changed.

@@ -1,6 +1,6 @@
 //! What a checker keeps of the lines of a trace, and how one line more changes it.
 //!
-//! The model: what is kept of the lines before ([`Trace`](src/trace.rt)) follows a `View` of `homa_plain` (`Follows` of
+//! The model: what is kept of the lines before ([`Trace`](src/trace.rt)) follows a `View` of `trace_rules` (`Follows` of
 //! `specs/Traces.antt`). It is of each host its clock, its lives and its incoming messages, and of each packet its
 //! header. It is of each call what rests on deliveries, and what the block's delivery may be taken back to.
 //! Main promise: `Trace::new` follows no line. After `Trace::take` of a line that has its shape, and runs its call
