@@ -1,6 +1,5 @@
 // The lines of a trace.
 use crate::{Body, CallId, Cutoffs, HostId, LineFault, Role, Settings};
-use std::fmt;
 
 /// Why a call failed at its client.
 #[derive(Clone, Copy, Debug, PartialEq, Eq)]
@@ -12,7 +11,8 @@ pub enum Why {
 }
 
 /// One line of a trace. Its bytes are borrowed; definitions see them as lists, through `plain`.
-#[derive(PartialEq, Eq, Drop)]
+// It derives neither Debug nor PartialEq: with 24 variants these two would take as long to prove as the rest of the crate.
+#[derive(Drop)]
 pub enum Entry<'a> {
     /// The settings of the run: the first line.
     Settings(Settings),
@@ -147,36 +147,4 @@ pub enum Entry<'a> {
         turns: u64,
         now: u64,
     },
-}
-
-// The name of the line alone: a derived Debug of 24 variants takes as long to prove as half of the crate.
-impl fmt::Debug for Entry<'_> {
-    fn fmt<W: fmt::Write>(&self, f: &mut fmt::Formatter<W>) -> fmt::Result {
-        f.write_str(match self {
-            Entry::Settings(_) => "Settings",
-            Entry::Call { .. } => "Call",
-            Entry::Deliver { .. } => "Deliver",
-            Entry::Clock { .. } => "Clock",
-            Entry::Restart { .. } => "Restart",
-            Entry::Inject { .. } => "Inject",
-            Entry::Shift { .. } => "Shift",
-            Entry::Junk { .. } => "Junk",
-            Entry::Stale { .. } => "Stale",
-            Entry::Send { .. } => "Send",
-            Entry::Run { .. } => "Run",
-            Entry::Done { .. } => "Done",
-            Entry::Fail { .. } => "Fail",
-            Entry::Drop { .. } => "Drop",
-            Entry::Gaps { .. } => "Gaps",
-            Entry::Bury { .. } => "Bury",
-            Entry::Free { .. } => "Free",
-            Entry::FullRows { .. } => "FullRows",
-            Entry::FullPages { .. } => "FullPages",
-            Entry::Balance { .. } => "Balance",
-            Entry::Recv { .. } => "Recv",
-            Entry::Finished { .. } => "Finished",
-            Entry::Refused { .. } => "Refused",
-            Entry::Stalled { .. } => "Stalled",
-        })
-    }
 }
