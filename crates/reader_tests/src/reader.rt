@@ -30,11 +30,14 @@ fn is_printed(rt: &impl Abort, alloc: Global, entry: &Entry<'_>, line: &[u8]) ->
     Ok(())
 }
 
-// A line is read as this entry.
+// A line is read as the entry that is printed so.
+#[tactic(auto, using(crate::proofs::Told::has_line))]
 fn is_read(rt: &impl Abort, alloc: Global, line: &[u8]) -> Result<(), Fail> {
     let mut bytes = vec![in alloc; 0; line.len()]?;
-    assert!(rt; read_entry(line, &mut bytes).is_some());
-    Ok(())
+    let Some(read) = read_entry(line, &mut bytes) else {
+        panic!(rt; "no entry is read");
+    };
+    is_printed(rt, alloc, &read, line)
 }
 
 fn same(rt: &impl Abort, alloc: Global, entry: &Entry<'_>, line: &[u8]) -> Result<(), Fail>
