@@ -4,7 +4,9 @@ use Rattle.homa_plain.specs.declared.fault.LineFault.{LineFault}
 use Rattle.homa_plain.specs.declared.fault.LineFault.TheVariants.{Script, World}
 use Rattle.homa_plain.specs.declared.fault.WorldFault.TheVariants as fault
 use Rattle.homa_plain.specs.Entries.{PlainEntry, PlainRefused, IsCause}
-use Rattle.homa_plain.specs.Entries.{PlainSettings, PlainCall, PlainDeliver, PlainClock, PlainRestart, PlainInject, PlainShift, PlainJunk, PlainStale, PlainSend, PlainRun, PlainDone, PlainFail, PlainDrop, PlainGaps, PlainBury, PlainFree, PlainFullRows, PlainFullPages, PlainBalance, PlainRecv, PlainFinished, PlainStalled}
+use Rattle.homa_plain.specs.Entries.{PlainSettings, PlainCall, PlainDeliver, PlainClock, PlainRestart, PlainInject, PlainShift, PlainJunk, PlainStale}
+use Rattle.homa_plain.specs.Entries.{PlainSend, PlainRun, PlainDone, PlainFail, PlainDrop, PlainGaps, PlainBury, PlainFree, PlainFullRows}
+use Rattle.homa_plain.specs.Entries.{PlainFullPages, PlainBalance, PlainRecv, PlainFinished, PlainStalled}
 use Rattle.homa_plain.specs.Told.{HasLine}
 use Rattle.check_reader.specs.Told.{Fits, FitsFault}
 
