@@ -56,11 +56,53 @@ fn the_clock_ends(rt: HostRuntime) -> Result<(), Fail> {
     Ok(())
 }
 
+// What these tests compare of an entry: its kind and its numbers, and its bytes.
+fn facts<'a>(entry: &Entry<'a>) -> Option<(u8, [u64; 4], &'a [u8], &'a [u8])> {
+    match *entry {
+        Entry::Call {
+            id,
+            server,
+            service,
+            bytes,
+        } => {
+            let server = u64::from(server.0);
+            let numbers = [u64::from(id.seq), server, u64::from(service), 0];
+            Some((0, numbers, bytes, b""))
+        }
+        Entry::Deliver { packet } => Some((1, [packet, 0, 0, 0], b"", b"")),
+        Entry::Send {
+            number,
+            from,
+            to,
+            level,
+            payload,
+            ..
+        } => {
+            let (from, to) = (u64::from(from.0), u64::from(to.0));
+            Some((2, [number, from, to, u64::from(level)], payload, b""))
+        }
+        Entry::Run {
+            host,
+            service,
+            request,
+            response,
+            hold,
+            ..
+        } => {
+            let host = u64::from(host.0);
+            let numbers = [host, u64::from(service), u64::from(hold), 0];
+            Some((3, numbers, request, response))
+        }
+        Entry::Done { id, bytes } => Some((4, [u64::from(id.seq), 0, 0, 0], bytes, b"")),
+        _ => None,
+    }
+}
+
 // These are the entries of the last event.
 fn tells(rt: &impl Abort, world: &World<Fickle<Suite>>, wanted: &[Entry<'_>]) {
     assert!(rt; world.entries() == wanted.len());
     for i in 0..wanted.len() {
-        assert!(rt; world.entry(i) == wanted[i]);
+        assert!(rt; facts(&world.entry(i)) == facts(&wanted[i]));
     }
 }
 
