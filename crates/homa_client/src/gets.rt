@@ -188,13 +188,18 @@ impl Row {
             lent.old.pool.now self.old lent.new.pool.now self.new lent.new.scratch.now result }
         ensures lent { IsSame lent.old lent.new }
     {
-        match open_part(self.server, piece, order, unsched, lent.pool, lent.scratch) {
+        match open_part(
+            &mut self.part,
+            self.server,
+            piece,
+            order,
+            unsched,
+            lent.pool,
+            lent.scratch,
+        ) {
             Opening::Full { need, free } => RowDid::Full { need, free },
             Opening::Whole => RowDid::Done { opened: true },
-            Opening::Begun(part) => {
-                self.part = Some(part);
-                RowDid::Opened
-            }
+            Opening::Begun => RowDid::Opened,
         }
     }
 

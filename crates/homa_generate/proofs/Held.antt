@@ -1,13 +1,12 @@
 -- A schedule that is made through a sink that holds lines back.
-use Rattle.std.proofs.Common.{◌≡◌, ℕ, Option, Result, Ok, Err, List, [], ◌++◌, refl, sym, ap, ◌∙◌, subst}
+use Rattle.std.proofs.Common.{◌≡◌, ℕ, Option, Result, Ok, Err, List, [], ◌++◌, sym, ap, ◌∙◌, subst}
 use Rattle.std.specs.Prelude.{IfOk, OnErr}
 use Rattle.std.proofs.lemmas.List.{append-nil}
 use Rattle.homa_io.specs.Outside.{appended, Grows, TookFront}
-use Rattle.homa_io.specs.Growing.{appended-nil, grows_on}
+use Rattle.homa_io.specs.Growing.{grows_on}
 use Rattle.homa_io.proofs.Fronts.{front_within, went_out}
 use Rattle.homa_plain.specs.Entries.{PlainEntry}
 use Rattle.homa_plain.specs.Answers.{shown}
-use Rattle.homa_replay.specs.declared.stop.Stop.{Stop}
 use Rattle.homa_replay.proofs.Fronts.{front_whole, nothing_appended}
 use Rattle.generated_runs.specs.Rounds.{Generated}
 use Rattle.generated_runs.specs.Generated.{generated_settings, schedule_text}

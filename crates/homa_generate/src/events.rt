@@ -1,10 +1,9 @@
 //! The events of a line, whose entries are counted.
-ghost use Rattle.std.specs.Prelude.{◌≡◌, ◌≤◌, ◌<◌, ◌+◌, ◌^◌, ◌∷◌, [], drop, length, false, OnOk, IfOk};
+ghost use Rattle.std.specs.Prelude.{◌≡◌, ◌≤◌, ◌<◌, ◌+◌, ◌^◌, ◌∷◌, [], drop, length, false, IfOk};
 ghost use Rattle.homa_plain.specs.World.{World};
 ghost use Rattle.homa_plain.specs.Replay.{turns_of, ticks};
 ghost use Rattle.generated_runs.specs.Rounds.{all_sent};
 ghost use Rattle.homa_plain.specs.Entries.{is_memory};
-ghost use Rattle.homa_generate.specs.Counts.{counted};
 ghost use Rattle.homa_generate.specs.Carried.{IsCarried};
 ghost use Rattle.homa_generate.specs.GenerateWorld.{AreNew};
 
@@ -13,17 +12,6 @@ use homa_fabric::Fabric;
 use homa_plain::{Event, HostId, WorldFault};
 use homa_replay::ReplayWorld;
 use std::alloc::{AllocError, Global};
-
-// Counts the entries of the last event.
-fn count_entries<P: GenerateWorld>(world: &P, counts: &mut Counts) -> Result<(), AllocError>
-    ensures { OnOk result (counts.new ≡ counted counts.old (P.told world.now)) }
-{
-    let count = world.entries();
-    for i in 0..count {
-        counts.note_kind(world.kind(i))?;
-    }
-    Ok(())
-}
 
 // That an event wasn't done; or there is no memory.
 fn refused(fault: WorldFault) -> Result<bool, AllocError>
@@ -54,7 +42,7 @@ pub(crate) fn happen<P: GenerateWorld>(
         Ok(()) => {}
         Err(fault) => return refused(fault),
     }
-    count_entries(world, counts)?;
+    world.count_lines(counts)?;
     Ok(true)
 }
 

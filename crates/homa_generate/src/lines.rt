@@ -18,9 +18,8 @@ use arrayvec::ArrayVec;
 use homa_fabric::{Fabric, Traffic};
 use homa_io::{Sink, WriteFailed, write_all};
 use homa_plain::{Entry, Event};
-use homa_replay::{ReplayWorld, Stop};
+use homa_replay::{FlushSink, ReplayWorld, Stop};
 use homa_script::put_event;
-use homa_text::put_entry;
 use itoa::Buffer;
 use std::alloc::AllocError;
 use written_lines::Word::{Host, Number, Text};
@@ -55,7 +54,7 @@ fn counting_word(n: u32) -> ArrayVec<u8, 24>
 }
 
 // Prints the line of a call.
-fn put_call<K: Sink>(sink: &mut K, t: &Traffic) -> Result<(), WriteFailed>
+fn put_call<K: FlushSink>(sink: &mut K, t: &Traffic) -> Result<(), WriteFailed>
     ensures { IsWritten K.taken K.faults K.is_same result sink.old sink.new (given_text (given_of (Line.Call t.now))) }
 {
     let bytes = counting_word(t.len);
@@ -71,18 +70,18 @@ fn put_call<K: Sink>(sink: &mut K, t: &Traffic) -> Result<(), WriteFailed>
 
 // Prints a line.
 #[tactic(auto, unfolding(homa_plain::specs::Script::event_text, homa_plain::specs::Text::line_text))]
-fn put<K: Sink>(sink: &mut K, line: &Line) -> Result<(), WriteFailed>
+fn put<K: FlushSink>(sink: &mut K, line: &Line) -> Result<(), WriteFailed>
     ensures { IsWritten K.taken K.faults K.is_same result sink.old sink.new (given_text (given_of line.now)) }
 {
     match line {
         Line::Tick => write_all(sink, b"tick\n"),
-        Line::Deliver(number) => put_entry(sink, &Entry::Deliver { packet: *number }),
+        Line::Deliver(number) => sink.put(&Entry::Deliver { packet: *number }),
         Line::Call(t) => put_call(sink, t),
     }
 }
 
 // Prints a line, where the lines of this run are printed.
-fn show<K: Sink>(setup: &Setup, sink: &mut K, line: &Line) -> Result<(), WriteFailed>
+fn show<K: FlushSink>(setup: &Setup, sink: &mut K, line: &Line) -> Result<(), WriteFailed>
     requires heard { IsHeard setup.now.prints K.taken }
     ensures { IsWritten K.taken K.faults K.is_same result sink.old sink.new (given_text (given_of line.now)) }
 {
@@ -126,7 +125,7 @@ fn carry<P: GenerateWorld>(
 }
 
 /// Prints a line, where the lines of this run are printed, and carries it out; the packets that it sends enter the fabric.
-pub(crate) fn play<P: GenerateWorld, K: Sink>(
+pub(crate) fn play<P: GenerateWorld, K: FlushSink>(
     setup: &Setup,
     world: &mut P,
     sink: &mut K,

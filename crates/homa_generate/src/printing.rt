@@ -13,7 +13,7 @@ use crate::{Counts, GenerateWorld};
 use homa_fabric::Fabric;
 use homa_io::{HeldSink, Room, Sink, SureSink};
 use homa_plain::Settings;
-use homa_replay::{OpenWorld, Stop, finish};
+use homa_replay::{FlushSink, OpenWorld, Stop, finish};
 use homa_script::put_settings;
 use std::alloc::Global;
 
@@ -27,7 +27,7 @@ fn generated_settings() -> Settings
 }
 
 // Prints the schedule of a run where `prints` says so, and answers the counts of its trace. Without, the sink is one that doesn't tell what it took.
-fn generate<B: Drop, P: GenerateWorld + OpenWorld<B> + Drop, K: Sink>(
+fn generate<B: Drop, P: GenerateWorld + OpenWorld<B> + Drop, K: FlushSink>(
     alloc: Global,
     sink: &mut K,
     boxes: B,

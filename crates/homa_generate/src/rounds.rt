@@ -11,7 +11,7 @@ use crate::lines::{Line, Progress, play};
 use crate::setup::Setup;
 use homa_io::Sink;
 use homa_plain::HostId;
-use homa_replay::{ReplayWorld, Stop};
+use homa_replay::{FlushSink, ReplayWorld, Stop};
 
 /// How many packets a host is handed in a round, at most: twice as many as there are bytes.
 const MOST_HANDED: u32 = 32_000;
@@ -23,7 +23,7 @@ const CALLS_A_ROUND: u32 = 20;
 const MOST_ROUNDS: u32 = 100_000;
 
 // A host is handed packets until its round ends.
-fn host_round<P: GenerateWorld, K: Sink>(
+fn host_round<P: GenerateWorld, K: FlushSink>(
     setup: &Setup,
     world: &mut P,
     sink: &mut K,
@@ -52,7 +52,7 @@ fn host_round<P: GenerateWorld, K: Sink>(
 }
 
 // Each host in order.
-fn hosts_round<P: GenerateWorld, K: Sink>(
+fn hosts_round<P: GenerateWorld, K: FlushSink>(
     setup: &Setup,
     world: &mut P,
     sink: &mut K,
@@ -76,7 +76,7 @@ fn hosts_round<P: GenerateWorld, K: Sink>(
 }
 
 // A call is drawn; where its client has as many live calls as it may, it isn't made, but counts.
-fn call<P: GenerateWorld, K: Sink>(
+fn call<P: GenerateWorld, K: FlushSink>(
     setup: &Setup,
     world: &mut P,
     sink: &mut K,
@@ -104,7 +104,7 @@ fn call<P: GenerateWorld, K: Sink>(
 }
 
 // So many calls, as long as some are still to be made.
-fn calls_round<P: GenerateWorld, K: Sink>(
+fn calls_round<P: GenerateWorld, K: FlushSink>(
     setup: &Setup,
     world: &mut P,
     sink: &mut K,
@@ -131,7 +131,7 @@ fn calls_round<P: GenerateWorld, K: Sink>(
 }
 
 // A round: a tick, then what each host is handed, then calls.
-fn round<P: GenerateWorld, K: Sink>(
+fn round<P: GenerateWorld, K: FlushSink>(
     setup: &Setup,
     world: &mut P,
     sink: &mut K,
@@ -163,7 +163,7 @@ fn is_over<P: GenerateWorld>(world: &P, progress: &Progress) -> bool
 }
 
 /// Rounds go on until the run is over, or there were as many as there may be.
-pub(crate) fn play_rounds<P: GenerateWorld, K: Sink>(
+pub(crate) fn play_rounds<P: GenerateWorld, K: FlushSink>(
     setup: &Setup,
     world: &mut P,
     sink: &mut K,

@@ -1,18 +1,19 @@
 //! A world in which traffic is generated.
-ghost use Rattle.std.specs.Prelude.{◌≡◌, ◌==◌, ◌<◌, Some, length, slice_get};
-ghost use Rattle.std.specs.Option.{option_map};
+ghost use Rattle.std.specs.Prelude.{◌≡◌, ◌==◌, OnOk, length};
 ghost use Rattle.std.specs.List.{list_all};
 ghost use Rattle.plain_sets.specs.Maps.{len};
 ghost use Rattle.homa_plain.specs.Host.{Host};
 ghost use Rattle.homa_plain.specs.World.{World as PlainWorld, host_at};
 ghost use Rattle.generated_runs.specs.Rounds.{live_at};
-ghost use Rattle.homa_world.specs.Kinds.{kind_of};
+ghost use Rattle.homa_generate.specs.Counts.{counted};
 ghost use Rattle.homa_world.specs.Passing.{IsOf};
 
+use crate::Counts;
 use homa_plain::HostId;
 use homa_replay::ReplayWorld;
 use homa_service::Service;
-use homa_world::{LineKind, Passing, World};
+use homa_world::{Passing, World};
+use std::alloc::AllocError;
 
 /// A world in which traffic is generated: it also shows its clock, the packets that were sent, and which hosts have
 /// live calls.
@@ -30,10 +31,9 @@ pub trait GenerateWorld: ReplayWorld {
     fn packet(&self, n: u64) -> Option<Passing>
         ensures { (w : PlainWorld) → Self.stands self.now w → IsOf (Self.settings self.now) w n result };
 
-    /// The kind of the line of the last event's entry with this number, if it is counted.
-    fn kind(&self, i: usize) -> Option<LineKind>
-        requires { i < length (Self.told self.now) }
-        ensures { option_map kind_of (slice_get (Self.told self.now) i) ≡ Some result };
+    /// Counts the lines of the last event's entries, by their kinds. Fails where a number has no room left.
+    fn count_lines(&self, counts: &mut Counts) -> Result<(), AllocError>
+        ensures { OnOk result (counts.new ≡ counted counts.old (Self.told self.now)) };
 
     /// How many live calls a host has; none where there is no such host.
     fn live(&self, host: HostId) -> u32
@@ -57,8 +57,13 @@ impl<S: Service> GenerateWorld for World<S> {
         World::packet(self, n)
     }
 
-    fn kind(&self, i: usize) -> Option<LineKind> {
-        World::kind(self, i)
+    fn count_lines(&self, counts: &mut Counts) -> Result<(), AllocError> {
+        counts.note_kind(self.unmarked_kind())?;
+        let marks = self.marks();
+        for mark in marks {
+            counts.note_kind(self.mark_kind(mark))?;
+        }
+        Ok(())
     }
 
     fn live(&self, host: HostId) -> u32 {

@@ -4,7 +4,7 @@ use Rattle.std.proofs.Common.{Some, refl, sym, ap, subst, ◌∙◌, arith}
 use Rattle.std.specs.List.{AllByRecursion}
 use Rattle.std.proofs.lemmas.Bool.{eq-eqb}
 use Rattle.std.proofs.lemmas.Bool.Decides.{nat_tests}
-use Rattle.std.proofs.lemmas.List.{length-map, length-take, take-map, take_all, map_more, get_or_read}
+use Rattle.std.proofs.lemmas.List.{length-map, length-take, take-map, take_all, map_more}
 use Rattle.std.proofs.Math.ListN.{get_or-map}
 use Rattle.place_heap.specs.declared.key.Key.{Key}
 use Rattle.place_heap.specs.Order.{Item, first_of as first_item}
@@ -19,7 +19,8 @@ use Rattle.homa_plain.specs.Grants.{chosen_by}
 use Rattle.homa_plain.specs.declared.id.HostId.{HostId}
 use Rattle.homa_grants.specs.Entries.{Entry, entry_key, entry_peer, entries_of}
 use Rattle.homa_grants.specs.Books.{Book, IsSound, IsWithin}
-use Rattle.homa_grants.specs.Heaps.{slot_item, slot_items, peer_item, no_heap, AreKept}
+use Rattle.homa_grants.specs.Heaps.{slot_item, slot_items, peer_item, AreKept}
+use Rattle.place_heap.specs.Heaps.{no_heap}
 use Rattle.homa_grants.proofs.EntryLaws.{all-at, filter-passed}
 
 -- what holds of all holds of the first k
@@ -101,13 +102,13 @@ module _ {heaps : List Held} {peers : Held} {peer_of : List (Option HostId)} {b 
           kept.sound.few,
         )
 
-    module _ (heap : Held) (reads : heap ≡ get_or heaps (get_or items i (peer_item no_entry)).0 heap) where
+    module _ (heap : Held) (reads : heap ≡ get_or heaps (get_or items i (peer_item no_entry)).0 no_heap) where
       -- its first message is that which is chosen
       pub first_is : first_item (list_of heap) ≡ Some (slot_item chosen_at)
       first_is =
           let own = (kept.heap chosen_at.peer (subst (λ p. p < b.hosts) peer_is (omega (arith, peer_in, kept.hosts)))).list in
           let all = take-all (λ e. first_item (slot_items e.peer b.entries) ≡ Some (slot_item e)) b.most (firsts entry_peer b.entries) (all-first b.entries) in
-          ap (λ h. first_item (list_of h)) (get_or_read heaps (get_or items i (peer_item no_entry)).0 heap peer_in reads no_heap)
+          ap (λ h. first_item (list_of h)) reads
           ∙ ap (λ p. first_item (list_of (get_or heaps p no_heap))) peer_is ∙ ap first_item own
           ∙ all-at (λ e. first_item (slot_items e.peer b.entries) ≡ Some (slot_item e)) (chosen_of b) i no_entry all is_chosen
 

@@ -4,8 +4,7 @@ use Rattle.std.specs.List.{AllByRecursion, Contains}
 use Rattle.std.specs.Option.{option_map}
 use Rattle.std.proofs.lemmas.Bool.{eqb-true, true≢false}
 use Rattle.std.proofs.lemmas.Bool.Decides.{nat_tests}
-use Rattle.place_heap.specs.Order.{placed as item_placed, without as items_without, first_of as first_item}
-use Rattle.host_heap.specs.Replaced.{replaced}
+use Rattle.place_heap.specs.Order.{placed as item_placed, without as items_without, first_of as first_item, replaced}
 use Rattle.host_heap.proofs.Books.{placed-items, without-items, keys-differ, filter-in_order, filter-differ}
 use Rattle.plain_sets.specs.Ordered.{is_below, placed, IsInOrder, KeysDiffer, DiffersFrom, SendersDiffer, not_of, firsts, first_of}
 use Rattle.plain_sets.proofs.OrderLaws.{front, below_other}

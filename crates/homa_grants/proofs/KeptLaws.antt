@@ -6,14 +6,14 @@ use Rattle.std.specs.Option.{option_map}
 use Rattle.std.proofs.lemmas.Bool.{cases_eq, eqb-true}
 use Rattle.std.proofs.lemmas.List.{get_or-set_same, get_or-set_other, get_or_read}
 use Rattle.place_heap.specs.declared.key.Key.{Key}
-use Rattle.place_heap.specs.Order.{key_in, first_of as first_item}
+use Rattle.place_heap.specs.Order.{key_in, first_of as first_item, replaced}
 use Rattle.place_heap.specs.Held.{Held, list_of}
-use Rattle.host_heap.specs.Replaced.{replaced}
 use Rattle.plain_sets.proofs.OrderLaws.{all_weaker}
 use Rattle.homa_plain.specs.declared.id.HostId.{HostId}
 use Rattle.homa_grants.specs.Entries.{Entry, entry_of, IsOwnOrder}
 use Rattle.homa_grants.specs.Books.{Book, IsWithin}
-use Rattle.homa_grants.specs.Heaps.{slot_item, slot_items, peer_items, message_at, messages, no_heap, host_of, IsHeapOf, AreKept}
+use Rattle.homa_grants.specs.Heaps.{slot_item, slot_items, peer_items, message_at, messages, host_of, IsHeapOf, AreKept}
+use Rattle.place_heap.specs.Heaps.{no_heap}
 use Rattle.plain_sets.proofs.OrderFirst.{all_from}
 use Rattle.plain_sets.proofs.MapMembers.{same_some}
 use Rattle.homa_grants.proofs.EntryLaws.{found-passes, same_number}
@@ -118,11 +118,10 @@ module _ {heaps : List Held} {peers : Held} {peer_of : List (Option HostId)} {b 
     pub own_peer : (e : Entry) → entry_of slot b.entries ≡ Some e → e.peer ≡ peer
     own_peer e is = ap (λ (x : Entry). x.peer) (same_some e message.entry (sym is ∙ message.found)) ∙ message.peer_is
 
-    module _ (heap : Held) (reads : heap ≡ get_or heaps peer heap) where
+    module _ (heap : Held) (reads : heap ≡ get_or heaps peer no_heap) where
       -- the heap that is read is that of the peer
       heap_is : IsHeapOf heap b.slots (slot_items peer b.entries)
-      heap_is = subst (λ h. IsHeapOf h b.slots (slot_items peer b.entries))
-          (sym (get_or_read heaps peer heap (omega (arith, message.peer_in, kept.hosts)) reads no_heap)) (kept.heap peer message.peer_in)
+      heap_is = subst (λ h. IsHeapOf h b.slots (slot_items peer b.entries)) (sym reads) (kept.heap peer message.peer_in)
 
       -- it has a place for the slot
       pub slot_fits : slot < length heap.cells

@@ -7,7 +7,8 @@ use Rattle.plain_sets.proofs.FirstLaws.{firsts-nil}
 use Rattle.homa_plain.specs.declared.id.HostId.{HostId}
 use Rattle.homa_grants.specs.Entries.{entry_peer}
 use Rattle.homa_grants.specs.Books.{Book}
-use Rattle.homa_grants.specs.Heaps.{peer_item, no_heap, IsHeapOf, AreKept}
+use Rattle.homa_grants.specs.Heaps.{peer_item, IsHeapOf, AreKept}
+use Rattle.place_heap.specs.Heaps.{no_heap, IsEmpty}
 use Rattle.homa_grants.proofs.EntryLaws.{all-at}
 
 -- no host
@@ -26,13 +27,13 @@ empty_book slots hosts most = record { slots = slots; hosts = hosts; most = most
 
 -- empty heaps keep it
 pub kept_empty : (slots hosts most : ℕ) (heaps : List Held) (peers : Held) → 1 ≤ most → most ≤ 7 → length heaps ≡ hosts
-    → AllByRecursion (λ h. IsHeapOf h slots []) heaps → IsHeapOf peers hosts []
+    → AllByRecursion (IsEmpty slots) heaps → IsHeapOf peers hosts []
     → AreKept heaps peers (replicate slots none) (empty_book slots hosts most)
 kept_empty slots hosts most heaps peers some few count empty first = record {
   sound = record { in_order = tt; slots = tt; orders = tt; within = tt; some = some; few = few };
   hosts = count;
   slots = length-replicate slots none;
-  heap = λ p inside. all-at (λ h. IsHeapOf h slots []) heaps p no_heap empty (omega (arith, inside, count));
+  heap = λ p inside. let at = all-at (IsEmpty slots) heaps p no_heap empty (omega (arith, inside, count)) in record { cap = at.cells; list = at.list };
   first = record { cap = first.cap; list = first.list ∙ ap (map peer_item) (sym (firsts-nil entry_peer)) };
   table = λ s inside. get_or-none slots s;
 }

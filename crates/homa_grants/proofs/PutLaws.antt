@@ -5,8 +5,7 @@ use Rattle.std.specs.Option.{option_map}
 use Rattle.std.proofs.lemmas.Bool.{eqb-true, eq-eqb, true≢false}
 use Rattle.std.proofs.lemmas.Bool.Decides.{nat_tests}
 use Rattle.place_heap.specs.declared.key.Key.{Key}
-use Rattle.place_heap.specs.Order.{placed as item_placed}
-use Rattle.host_heap.specs.Replaced.{replaced}
+use Rattle.place_heap.specs.Order.{placed as item_placed, replaced}
 use Rattle.host_heap.proofs.Books.{placed-items, without-items, key-differs, keys-differ, others-left, free-others, filter-in_order, filter-differ}
 use Rattle.host_heap.proofs.Books.{placed-differ}
 use Rattle.plain_sets.specs.Ordered.{placed, IsInOrder, DiffersFrom, SendersDiffer}

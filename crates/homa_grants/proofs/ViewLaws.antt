@@ -14,7 +14,8 @@ use Rattle.plain_sets.specs.Ordered.{ordered, IsInOrder, SendersDiffer}
 use Rattle.plain_sets.proofs.OrderLaws.{all_weaker}
 use Rattle.plain_sets.proofs.OrderSame.{everywhere, ordered-permuted, ordered-sorted}
 use Rattle.homa_grants.specs.Entries.{Entry, entry_key, entries_of}
-use Rattle.homa_grants.specs.Heaps.{slot_item, slot_items, message_at, messages_from, messages, no_heap}
+use Rattle.homa_grants.specs.Heaps.{slot_item, slot_items, message_at, messages_from, messages}
+use Rattle.place_heap.specs.Heaps.{no_heap}
 use Rattle.homa_grants.proofs.EntryLaws.{filter-kept, filter-none}
 
 -- the messages of a peer, read back from its heap

@@ -3,6 +3,7 @@ use Rattle.std.specs.Prelude.{◌≡◌, ℕ, suc, ◌<◌, List, [], ◌∷◌,
 use Rattle.std.specs.Option.{option_map}
 use Rattle.place_heap.specs.Order.{Item}
 use Rattle.place_heap.specs.Held.{Held, list_of}
+use Rattle.place_heap.specs.Heaps.{no_heap}
 use Rattle.plain_sets.specs.Ordered.{ordered, firsts}
 use Rattle.homa_plain.specs.declared.id.HostId.{HostId}
 use Rattle.homa_grants.specs.Entries.{Entry, entry_key, entry_peer, entries_of, entry_of}
@@ -36,10 +37,6 @@ messages_from peer (heap ∷ heaps) = map (message_at peer) (list_of heap) ++ me
 -- the messages of all heaps, in order
 unfoldable pub messages : List Held → List Entry
 messages heaps = ordered entry_key (messages_from 0 heaps)
-
--- a heap without cells
-abbrev pub no_heap : Held
-no_heap = record { cells = []; len = 0 }
 
 -- the peer of a message as a host
 abbrev pub host_of : Entry → HostId

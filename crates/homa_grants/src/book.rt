@@ -14,7 +14,7 @@ ghost use Rattle.homa_grants.specs.Heaps.{slot_items, peer_items, message_at};
 use arrayvec::ArrayVec;
 use homa_plain::{HostId, Settings};
 use host_heap::{first, first_k, key, replace};
-use place_heap::{Key, PlaceHeap};
+use place_heap::{Key, PlaceHeap, PlaceHeaps};
 use std::alloc::{AllocError, Global};
 use std::marker::Model;
 
@@ -22,7 +22,7 @@ use std::marker::Model;
 #[derive(Drop)]
 pub struct GrantBook {
     // The slots of each peer's messages.
-    heaps: Vec<PlaceHeap>,
+    heaps: PlaceHeaps,
     // The peers that have a message, by the key of their first one.
     peers: PlaceHeap,
     // The peer under which each slot stands, if it does.
@@ -41,10 +41,10 @@ impl Model for GrantBook {
     ghost use Rattle.std.specs.Prelude.{length};
     ghost use Rattle.homa_grants.specs.Heaps.{messages, AreKept};
 
-    ghost view = { λ b. record { slots = length b.peer_of.items; hosts = length b.heaps.items; most = b.most; entries = messages b.heaps.items } };
+    ghost view = { λ b. record { slots = length b.peer_of.items; hosts = length b.heaps.list; most = b.most; entries = messages b.heaps.list } };
 
-    ghost invariant = { λ b. AreKept b.heaps.items b.peers b.peer_of.items
-        (record { slots = length b.peer_of.items; hosts = length b.heaps.items; most = b.most; entries = messages b.heaps.items }) };
+    ghost invariant = { λ b. AreKept b.heaps.list b.peers b.peer_of.items
+        (record { slots = length b.peer_of.items; hosts = length b.heaps.list; most = b.most; entries = messages b.heaps.list }) };
 }
 
 impl GrantBook {
@@ -58,12 +58,8 @@ impl GrantBook {
         ensures sound { IfOk result IsSound }
     {
         let slots = settings.slots();
-        let mut heaps = Vec::with_capacity(alloc, settings.hosts as usize)?;
-        for _ in 0..settings.hosts {
-            heaps.push(PlaceHeap::new(alloc, slots)?)?;
-        }
         Ok(GrantBook {
-            heaps,
+            heaps: PlaceHeaps::open(alloc, settings.hosts, slots)?,
             peers: PlaceHeap::new(alloc, settings.hosts)?,
             peer_of: vec![in alloc; None; slots as usize]?,
             most: settings.overcommit,
@@ -101,7 +97,7 @@ impl GrantBook {
         let Some(peer) = self.peer_of[slot as usize] else {
             unreachable!()
         };
-        let Some(mut key) = key(&self.heaps[peer.0 as usize], slot) else {
+        let Some(mut key) = key(self.heaps.get(u32::from(peer.0)), slot) else {
             unreachable!()
         };
         key.first = u64::from(remaining);
@@ -140,8 +136,10 @@ impl GrantBook {
             map (λ e. e.slot) (chosen_by entry_peer entry_key self.now.most self.now.entries) }
         ensures few { length out.new.items ≤ self.now.most }
     {
-        for (peer, _) in first_k(&self.peers, self.most).as_slice() {
-            let heap = &self.heaps[*peer as usize];
+        let mut peers = ArrayVec::new();
+        first_k(&self.peers, self.most, &mut peers);
+        for (peer, _) in peers.as_slice() {
+            let heap = self.heaps.get(*peer);
             let Some((slot, _)) = first(heap) else {
                 unreachable!()
             };
@@ -154,7 +152,7 @@ impl GrantBook {
         requires { peer.0 < self.now.hosts }
         ensures { list_of result.now ≡ slot_items peer.0 self.now.entries }
     {
-        &self.heaps[peer.0 as usize]
+        self.heaps.get(u32::from(peer.0))
     }
 
     /// The heap over the peers that have a message, each by the key of its first one.
@@ -190,10 +188,10 @@ impl GrantBook {
         } }
         ensures sound { IsSound self.new }
     {
-        let heap = &mut self.heaps[peer.0 as usize];
-        replace(heap, slot, key);
-        let first = first(heap).map(|(_, key)| key);
-        replace(&mut self.peers, u32::from(peer.0), first);
+        let host = u32::from(peer.0);
+        self.heaps.replace(host, slot, key);
+        let first = first(self.heaps.get(host)).map(|(_, key)| key);
+        replace(&mut self.peers, host, first);
         self.peer_of[slot as usize] = key.map(|_| peer);
     }
 }

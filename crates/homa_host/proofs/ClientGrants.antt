@@ -1,5 +1,5 @@
 -- A client's message is granted up to an end.
-use Rattle.std.proofs.Common.{◌≡◌, ◌<◌, ◌≤◌, ℕ, Option, Some, [], refl, sym, ap, subst, ◌∙◌, arith}
+use Rattle.std.proofs.Common.{◌≡◌, ◌<◌, ◌≤◌, ℕ, Option, Some, None, [], refl, sym, ap, subst, ◌∙◌, arith}
 use Rattle.std.specs.Prelude.{IsSomeAnd}
 use Rattle.plain_sets.specs.Maps.{insert}
 use Rattle.homa_plain.specs.declared.id.CallId.{CallId}
@@ -7,7 +7,8 @@ use Rattle.homa_plain.specs.declared.packet.Body.TheVariants as body
 use Rattle.homa_plain.specs.declared.packet.Role.TheVariants.{Client}
 use Rattle.homa_plain.specs.Host.{Host}
 use Rattle.homa_plain.specs.Rows.{ClientRow}
-use Rattle.homa_plain.specs.Sending.{Arriving, client_granted}
+use Rattle.homa_plain.specs.Incoming.{Incoming}
+use Rattle.homa_plain.specs.Sending.{Arriving, client_granted, granted_part}
 use Rattle.homa_plain.specs.Work.{Work}
 use Rattle.homa_plain.specs.Steps.{grants_at, client_is_granted}
 use Rattle.homa_plain.specs.Timers.{Place, OfClient}
@@ -21,18 +22,23 @@ use Rattle.homa_client.specs.Held.{HeldRow, seen_row}
 use Rattle.homa_client.specs.AtTable.{Clients, Moved, MayGrant}
 use Rattle.host_view.specs.Follow.{ChangesAt}
 use Rattle.host_books.specs.declared.books.Books.{Books}
-use Rattle.host_books.specs.Duty.{client_duty, followed}
+use Rattle.host_books.specs.Duty.{client_duty, arrival_duty, followed}
 use Rattle.host_laws.specs.Peers.{KnowsServer}
 use Rattle.host_laws.proofs.Known.{client_granted-known}
 use Rattle.homa_host.specs.declared.parts.HostParts.{HostParts}
 use Rattle.homa_host.specs.Parts.{host_of, seen_of, IsKept}
 use Rattle.homa_host.specs.Granting.{ArrivesAt, IsRaised}
-use Rattle.homa_host.specs.Outcomes.{CanFollowClient, FollowedClient}
+use Rattle.homa_host.specs.Outcomes.{CanFollowClient, WentOnClient}
 use Rattle.homa_host.specs.declared.outcome.Change.TheVariants.{Stays}
 use Rattle.homa_host.proofs.SlotRows.{client_row, client_spot, arrives_at_client, arriving_client}
 use Rattle.homa_host.proofs.ClientKept.{own_like, host_after}
-use Rattle.homa_host.proofs.ClientStays.{beside_none, stood, knows, owned, inside, part_inside, message_at, changes_to, can_follow, followed_by, kept_stays}
+use Rattle.homa_host.proofs.ClientStays.{beside_none, stood, knows, owned, inside, part_inside, message_at, changes_to, can_follow, went_on, kept_stays}
 use Rattle.homa_host.proofs.RaisedLaws.{Arrives, some_of, one_row, raised_step}
+
+-- a grant changes nothing that the grants' book has of a message
+granted_arrival : (offset : ℕ) (part : Option Incoming) → arrival_duty (granted_part offset part) ≡ arrival_duty part
+granted_arrival offset None = refl
+granted_arrival offset (Some p) = refl
 
 -- the message that arrives at a client's slot
 abbrev pub ClientArrives : HostParts → ℕ → Arriving → Type 0
@@ -87,9 +93,10 @@ module _ (c : HostParts) (kept : IsKept c) (slot : ℕ) (a : Arriving) (x : Clie
     pub granted_follows : CanFollowClient clients c.books (Stays slot)
     granted_follows = can_follow c kept x.id slot x.row x.stands clients row moved own known c.books refl
 
-    module _ (books : Books) (follows : FollowedClient clients (Stays slot) c.books books) where
+    module _ (books : Books) (went : WentOnClient clients slot c.books books) where
       followed_granted : books ≡ followed slot (client_duty c.control.settings row) c.books
-      followed_granted = followed_by c kept x.id slot x.row x.stands clients row moved c.books books refl follows
+      followed_granted = went_on c kept x.id slot x.row x.stands clients row moved c.books books refl
+          (granted_arrival offset (seen_row c.pool x.row).part) went
 
       abbrev parts : HostParts
       parts = record { control = c.control; clients = clients; servers = c.servers; pool = c.pool; books = books; order = c.order }

@@ -10,6 +10,7 @@ use Rattle.plain_sets.specs.Ranges.{range}
 use Rattle.homa_plain.specs.declared.id.CallId.{CallId}
 use Rattle.homa_plain.specs.declared.row.Emitted.{Emitted}
 use Rattle.homa_plain.specs.declared.row.Emitted.TheVariants.{Sent, Short, Rests}
+use Rattle.homa_plain.specs.declared.settings.Settings.{Settings}
 use Rattle.homa_plain.specs.Host.{Host}
 use Rattle.homa_plain.specs.Outgoing.{next_range, IsSound}
 use Rattle.homa_plain.specs.Rows.{ClientRow}
@@ -33,7 +34,7 @@ use Rattle.host_view.specs.Seen.{ready_of, waiting}
 use Rattle.homa_pacer.specs.Pace as pace
 use Rattle.host_books.specs.declared.books.Books.{Books}
 use Rattle.host_books.specs.Duties.{ready_in}
-use Rattle.host_books.specs.Duty.{client_duty, followed}
+use Rattle.host_books.specs.Duty.{client_duty, arrival_duty, followed}
 use Rattle.host_books.proofs.PumpOnce.{picked, idle_ready, sends_next, client_departs, client_rests, client_waits, client_sends_next}
 use Rattle.host_books.proofs.PumpOnce.{client_short, some_next, shorter, booked_length}
 use Rattle.host_laws.specs.Peers.{KnowsServer}
@@ -41,20 +42,25 @@ use Rattle.host_laws.proofs.Known.{client_sends-known}
 use Rattle.homa_host.specs.declared.parts.HostParts.{HostParts}
 use Rattle.homa_host.specs.Parts.{host_of, seen_of, IsKept}
 use Rattle.homa_host.specs.Amid.{WasSent, WasIdle, WasShort}
-use Rattle.homa_host.specs.Outcomes.{FollowedClient}
+use Rattle.homa_host.specs.Outcomes.{WentOnClient}
 use Rattle.homa_host.specs.declared.outcome.Change.TheVariants.{Stays}
 use Rattle.homa_host.proofs.Begun.{at-amid, amid-at, rest-amid}
 use Rattle.homa_host.proofs.SlotRows.{client_row, client_standing, kept_slots}
 use Rattle.homa_host.proofs.ClientKept.{own_like, host_after}
 use Rattle.homa_host.specs.Outcomes.{CanFollowClient}
 use Rattle.homa_host.proofs.ClientStays.{Beside, stood, knows, inside, spends, kept_spent, kept_same, amid_same, stands_after, spot_after, can_follow}
-use Rattle.homa_host.proofs.ClientStays.{followed_by, kept_stays}
+use Rattle.homa_host.proofs.ClientStays.{went_on, kept_stays}
 use Rattle.homa_host.proofs.Emits.{IsView, view_of, picked_in, few_ready}
 
 -- what the row of a request keeps
 sends_request : (now seg : ℕ) (r : ClientRow) → (while_new now r).request ≡ r.request
 sends_request now seg r = cond_both (nat_lt r.out.top r.out.length) (record r { heard = now; base = now; count = 0 }) r
     (λ (q : ClientRow). q.request ≡ r.request) (λ _. refl) (λ _. refl)
+
+-- and what arrives in it
+sends_arrival : (s : Settings) (now : ℕ) (r : ClientRow) → arrival_duty (client_sends s now r).part ≡ arrival_duty r.part
+sends_arrival s now r = cond_both (nat_lt r.out.top r.out.length) (record r { heard = now; base = now; count = 0 }) r
+    (λ (q : ClientRow). arrival_duty q.part ≡ arrival_duty r.part) (λ _. refl) (λ _. refl)
 
 -- the row at a place, when it is to be sent next
 pub record IsNext (c : HostParts) (slot : ℕ) : Type 0 where
@@ -214,10 +220,10 @@ module _ (c : HostParts) (kept : IsKept c) (slot : ℕ) (n : IsNext c slot) wher
       sent_follows = can_follow paid paid_kept n.id slot n.row n.stands clients sent_row x.moved sent_own sent_known
           (record c.books { pacer = pacer }) (λ i. record c.books { pacer = spent i })
 
-      module _ (books : Books) (follows : FollowedClient clients (Stays slot) (record c.books { pacer = pacer }) books) where
+      module _ (books : Books) (went : WentOnClient clients slot (record c.books { pacer = pacer }) books) where
         followed_sent : books ≡ followed slot (client_duty c.control.settings sent_row) (spends (to - from) c.books)
-        followed_sent = followed_by paid paid_kept n.id slot n.row n.stands clients sent_row x.moved (record c.books { pacer = pacer }) books
-            (λ i. record c.books { pacer = spent i }) follows
+        followed_sent = went_on paid paid_kept n.id slot n.row n.stands clients sent_row x.moved (record c.books { pacer = pacer }) books
+            (λ i. record c.books { pacer = spent i }) (sends_arrival c.control.settings c.control.last row) went
 
         pub sent_kept : (control : Control) → control_laws.IsSound control → Beside c.control control
             → IsKept (record { control = control; clients = clients; servers = c.servers; pool = c.pool; books = books; order = c.order })

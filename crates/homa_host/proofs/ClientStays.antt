@@ -28,14 +28,17 @@ use Rattle.homa_client.specs.AtTable.{Clients, Moved, seen_rows, place_at}
 use Rattle.host_state.specs.Control.{Control, IsSound}
 use Rattle.host_view.specs.declared.outbox.SentFrame.{SentFrame}
 use Rattle.host_view.specs.Seen.{Seen, slot_of}
+use Rattle.homa_grants.specs.Books.{Book}
+use Rattle.homa_grants.specs.Entries.{Entry}
 use Rattle.host_view.specs.Follow.{ChangesAt, has_row, client_arrival}
 use Rattle.host_books.specs.declared.books.Arrival.{Arrival}
 use Rattle.host_books.specs.declared.books.Books.{Books}
 use Rattle.host_books.specs.Duties.{AreOwn, AreBooked, HaveRoom}
 use Rattle.host_books.proofs.Changing.{books_stay}
-use Rattle.host_books.specs.Duty.{client_duty, arrival_duty, followed}
+use Rattle.host_books.specs.Duty.{client_duty, client_duty_in, arrival_duty, followed}
 use Rattle.host_books.specs.SameRows.{SameRows}
 use Rattle.host_books.proofs.Splits.{is_set}
+use Rattle.host_books.proofs.Rebooked.{rebooked}
 use Rattle.host_books.proofs.Tables.{made_of}
 use Rattle.host_books.proofs.Things.{thing_at}
 use Rattle.host_books.proofs.BookThings.{arrival_things}
@@ -46,9 +49,8 @@ use Rattle.homa_host.specs.declared.parts.HostParts.{HostParts}
 use Rattle.homa_host.specs.Parts.{host_of, seen_of, part_in, IsKept}
 use Rattle.homa_host.specs.Amid.{Amid}
 use Rattle.homa_host.proofs.Begun.{at-amid, amid-at, rest-amid}
-use Rattle.homa_host.specs.Outcomes.{MayStayClient, FollowedClient}
-use Rattle.homa_host.specs.Outcomes.{CanFollowClient}
-use Rattle.homa_host.proofs.SlotRows.{client_row, kept_slots}
+use Rattle.homa_host.specs.Outcomes.{MayStayClient, CanFollowClient, FollowedClient, WentOnClient}
+use Rattle.homa_host.proofs.SlotRows.{client_row, client_standing, kept_slots}
 use Rattle.homa_host.proofs.ClientKept.{own_like, at_slot_after, places_after, slot_within, parts_in, host_after, seen_after, changes, duty_own, kept_after}
 
 -- ---- the control goes on, and leaves what the rows depend on
@@ -226,6 +228,15 @@ module _ (c : HostParts) (kept : IsKept c) (id : CallId) (slot : ℕ) (r : HeldR
       subst (λ (o : Option Part). Contains (arriving_at_client id (seen_part c.pool o)) a) e here in
       all_at (λ (x : Arriving). x.message ≡ seen (part.seen c.pool p)) (arriving_at_client id (seen_part c.pool (Some p))) a (refl, tt) only
 
+  -- what arrives in it is booked as it is
+  arrival_booked : (followed slot (client_duty c.control.settings (seen_row c.pool r)) c.books).grants ≡ c.books.grants
+  arrival_booked =
+      let at = client_standing c id slot r stands in
+      let anew = subst (λ (o : Option ClientRow). AreBooked (seen_of c) (followed slot (client_duty_in c.control.settings o) c.books))
+      (client_row c id slot r stands)
+      (rebooked (OfClient id) slot (seen_of c) (seen_of c) (changes_none c kept (OfClient id) slot at.1) (inl at.0) kept.own c.books kept.booked) in
+      ap (λ (es : List Entry). record c.books.grants { entries = es }) (anew.entered ∙ sym kept.booked.entered)
+
   module _ (clients : Clients) (row : ClientRow) (moved : Moved id c.clients c.pool clients c.pool (Some row)) where
     -- it stands there afterwards
     pub stands_after : (x : HeldRow) × StandsAt clients.rows id slot x × (seen_row c.pool x ≡ row)
@@ -322,6 +333,16 @@ module _ (c : HostParts) (kept : IsKept c) (id : CallId) (slot : ℕ) (r : HeldR
       pub can_follow : (books : Books) → books ≡ c.books → CanFollowClient clients books (Stays slot)
       can_follow books e = subst (λ (b : Books). CanFollowClient clients b (Stays slot)) (sym e)
           (record { stands = spot_after; may = may_stay; room = room_after; within = within_after })
+
+    -- the books of the row, where what arrives in it is what arrived before
+    pub went_on : (books after : Books) → books ≡ c.books → arrival_duty row.part ≡ arrival_duty (seen_row c.pool r).part
+        → WentOnClient clients slot books after → after ≡ followed slot (client_duty c.control.settings row) c.books
+    went_on books after e same went =
+        let duty = client_duty c.control.settings row in
+        let is = subst (λ (b : Books). WentOnClient clients slot b after) e went in
+        is id stands_after.0 c.pool stands_after.1 inside_after ∙ ap (λ d. record (followed slot d c.books) { grants = c.books.grants }) duty_after
+        ∙ ap (λ (g : Book). record (followed slot duty c.books) { grants = g })
+        (sym (ap (λ (a : Option Arrival). (followed slot (record duty { arrival = a }) c.books).grants) same ∙ arrival_booked))
 
     -- the books followed
     pub followed_by : (books after : Books) → books ≡ c.books → FollowedClient clients (Stays slot) books after

@@ -108,9 +108,9 @@ module _ (c : HostParts) (kept : IsKept c) {from : HostId} {packet : WirePacket}
         follow_books c kept id slot (gets_stood c kept taken slot e) clients pool (did w).row
         (gets_moved c kept taken w same) taken.inside (client_change d) books (gets_change c kept taken w same slot e) follows
 
-    pub gets_kept : (k : ℕ) → IsSound control → control ≡ record c.control { tuning = control.tuning; finished = control.finished; marks = control.marks }
-        → control.tuning.opened ≡ c.control.tuning.opened + k → k ≤ client_orders d → IsKept parts
-    gets_kept k sound same opened few = by_slot (IsKept parts)
+    pub gets_kept : IsSound control → control ≡ record c.control { tuning = control.tuning; finished = control.finished; marks = control.marks }
+        → c.control.tuning.opened ≤ control.tuning.opened → control.tuning.opened ≤ c.control.tuning.opened + client_orders d → IsKept parts
+    gets_kept sound same no_fewer opened = by_slot (IsKept parts)
         (λ e.
         let both = (got c kept taken).same e in
         let none = no_orders d e in
@@ -119,7 +119,7 @@ module _ (c : HostParts) (kept : IsKept c) {from : HostId} {packet : WirePacket}
           id = ap (λ (x : Control). x.id) same;
           inc = ap (λ (x : Control). x.inc) same;
           last = omega (arith, ap (λ (x : Control). x.last) same);
-          opened = omega (arith, opened, few, none);
+          opened = omega (arith, no_fewer, opened, none);
         }) sound kept in
         let count : c.order ≡ order = omega (arith, order_is, none) in
         subst (λ (x : HostParts). IsKept x)
@@ -135,7 +135,7 @@ module _ (c : HostParts) (kept : IsKept c) {from : HostId} {packet : WirePacket}
         let stood = gets_stood c kept taken slot e in
         let moved = gets_moved c kept taken (silent c) refl in
         let count : (did (silent c)).order ≡ order = gets_order c kept taken (silent c) refl ∙ sym order_is in
-        let most_opened : control.tuning.opened ≤ (did (silent c)).order = omega (arith, opened, few, kept.opened, count, order_is) in
+        let most_opened : control.tuning.opened ≤ (did (silent c)).order = omega (arith, opened, kept.opened, count, order_is) in
         let all = asked_kept c kept id slot stood clients pool from (did (silent c)) moved control sound same most_opened (gets_known c kept taken)
         (gets_own c kept taken) in
         subst (λ (x : HostParts). IsKept x)

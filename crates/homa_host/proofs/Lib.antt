@@ -1,6 +1,8 @@
 pub mod ClientKept
 pub mod AskedLaws
 pub mod FollowLaws
+pub mod ReplyDuty
+pub mod Quiet
 pub mod ActLaws
 pub mod WholeLaws
 pub mod GetsLaws

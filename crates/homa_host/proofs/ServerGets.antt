@@ -437,9 +437,9 @@ module _ (c : HostParts) (kept : IsKept c) {from : HostId} {packet : WirePacket}
     same_books : slot_in d ≡ None → books ≡ c.books
     same_books e = subst (λ (ch : Change). FollowedServer servers c.control.settings.calls ch c.books books) (no_change d e) follows
 
-    pub gets_kept : (k : ℕ) → IsSound control → control ≡ record c.control { tuning = control.tuning; marks = control.marks }
-        → control.tuning.opened ≡ c.control.tuning.opened + k → k ≤ server_orders d → IsKept parts
-    gets_kept k sound same opened few = by_slot (IsKept parts)
+    pub gets_kept : IsSound control → control ≡ record c.control { tuning = control.tuning; marks = control.marks }
+        → c.control.tuning.opened ≤ control.tuning.opened → control.tuning.opened ≤ c.control.tuning.opened + server_orders d → IsKept parts
+    gets_kept sound same no_fewer opened = by_slot (IsKept parts)
         (λ e.
         let both = got.same e in
         let none = no_orders d e in
@@ -448,7 +448,7 @@ module _ (c : HostParts) (kept : IsKept c) {from : HostId} {packet : WirePacket}
           id = ap (λ (x : Control). x.id) same;
           inc = ap (λ (x : Control). x.inc) same;
           last = omega (arith, ap (λ (x : Control). x.last) same);
-          opened = omega (arith, opened, few, none);
+          opened = omega (arith, no_fewer, opened, none);
         } in
         let all = kept-control c control on sound kept in
         let count : c.order ≡ order = omega (arith, order_is, none) in
@@ -461,7 +461,7 @@ module _ (c : HostParts) (kept : IsKept c) {from : HostId} {packet : WirePacket}
           books = (sym (same_books e)) i;
           order = count i;
         }) all)
-        (λ slot e. kept_there slot e books control order order_is follows sound same (omega (arith, opened, few, kept.opened, order_is)))
+        (λ slot e. kept_there slot e books control order order_is follows sound same (omega (arith, opened, kept.opened, order_is)))
 
     clients_are : seen_rows pool c.clients.rows ≡ seen_rows c.pool c.clients.rows
     clients_are = by_slot _ (λ e. ap (λ (q : Pool). seen_rows q c.clients.rows) (got.same e).1) clients_there

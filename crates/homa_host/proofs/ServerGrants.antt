@@ -6,8 +6,8 @@ use Rattle.homa_plain.specs.declared.id.CallId.{CallId}
 use Rattle.homa_plain.specs.declared.packet.Body.TheVariants as body
 use Rattle.homa_plain.specs.declared.packet.Role.TheVariants.{Server}
 use Rattle.homa_plain.specs.Host.{Host}
-use Rattle.homa_plain.specs.Rows.{ServerRow}
-use Rattle.homa_plain.specs.Sending.{server_granted}
+use Rattle.homa_plain.specs.Rows.{ServerRow, State, Receiving, Held, Replying, Buried}
+use Rattle.homa_plain.specs.Sending.{server_granted, state_granted}
 use Rattle.homa_plain.specs.Sending as sending
 use Rattle.homa_plain.specs.Work.{Work}
 use Rattle.homa_plain.specs.Steps.{grants_at, server_is_granted}
@@ -22,19 +22,26 @@ use Rattle.homa_server.specs.Answers.{IsGrantable}
 use Rattle.homa_server.specs.Table.{Servers, ServerMoved, request_at}
 use Rattle.host_view.specs.Follow.{ChangesAt}
 use Rattle.host_books.specs.declared.books.Books.{Books}
-use Rattle.host_books.specs.Duty.{server_duty, followed}
+use Rattle.host_books.specs.Duty.{server_duty, arrival_duty, arriving, followed}
 use Rattle.host_laws.specs.Peers.{KnowsClient}
 use Rattle.host_laws.proofs.Known.{state_granted-known}
 use Rattle.homa_host.specs.declared.parts.HostParts.{HostParts}
 use Rattle.homa_host.specs.Parts.{host_of, seen_of, IsKept}
 use Rattle.homa_host.specs.Granting.{ArrivesAt, IsRaised}
-use Rattle.homa_host.specs.ServerFollow.{CanFollowServer, FollowedServer}
+use Rattle.homa_host.specs.ServerFollow.{CanFollowServer, WentOnServer}
 use Rattle.homa_host.specs.declared.outcome.Change.TheVariants.{Stays}
 use Rattle.homa_host.proofs.SlotRows.{server_row, server_spot, arrives_at_server, arriving_server}
 use Rattle.homa_host.proofs.ClientKept.{own_like}
 use Rattle.homa_host.proofs.ClientStays.{beside_none}
-use Rattle.homa_host.proofs.ServerStays.{knows, all_inside, part_inside, message_at, host_put, changes_to, can_follow, followed_by, kept_stays}
+use Rattle.homa_host.proofs.ServerStays.{knows, all_inside, part_inside, message_at, host_put, changes_to, can_follow, went_on, kept_stays}
 use Rattle.homa_host.proofs.RaisedLaws.{Arrives, some_of, one_row, raised_step}
+
+-- a grant changes nothing that the grants' book has of a request
+granted_arrival : (now offset : ℕ) (state : State) → arrival_duty (arriving (state_granted now offset state)) ≡ arrival_duty (arriving state)
+granted_arrival now offset (Receiving service part base count) = refl
+granted_arrival now offset (Held response release) = refl
+granted_arrival now offset (Replying response out order base count) = refl
+granted_arrival now offset (Buried until) = refl
 
 -- the message that arrives at the place of a server's row
 abbrev pub ServerArrives : HostParts → ℕ → sending.Arriving → Type 0
@@ -105,9 +112,10 @@ module _ (c : HostParts) (kept : IsKept c) (slot place : ℕ) (at_slot : c.contr
       pub granted_follows : CanFollowServer servers calls c.books (Stays place)
       granted_follows = can_follow c kept x.id place x.row x.stands servers row moved own known calls c.books calls_are refl
 
-      module _ (books : Books) (follows : FollowedServer servers calls (Stays place) c.books books) where
+      module _ (books : Books) (went : WentOnServer servers calls place c.books books) where
         followed_granted : books ≡ followed (c.control.settings.calls + place) (server_duty c.control.settings row) c.books
-        followed_granted = followed_by c kept x.id place x.row x.stands servers row moved calls c.books books calls_are refl follows
+        followed_granted = went_on c kept x.id place x.row x.stands servers row moved calls c.books books calls_are refl
+            (granted_arrival c.control.last offset (seen_server c.pool x.row).state) went
 
         abbrev parts : HostParts
         parts = record { control = c.control; clients = c.clients; servers = servers; pool = c.pool; books = books; order = c.order }

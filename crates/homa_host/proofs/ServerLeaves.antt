@@ -17,7 +17,7 @@ use Rattle.homa_plain.specs.Outgoing.{Outgoing, has_waiting, next_range, IsFront
 use Rattle.homa_plain.proofs.OutgoingLaws.{front-next_range, idle-waiting}
 use Rattle.homa_plain.specs.Rows.{ServerRow, State, Receiving, Held, Replying, Buried}
 use Rattle.homa_plain.specs.SentNext.{Leaving, departures}
-use Rattle.homa_plain.specs.Sending.{response_content}
+use Rattle.homa_plain.specs.Sending.{response_content, state_sends}
 use Rattle.homa_plain.specs.Work.{Work}
 use Rattle.homa_plain.specs.SentNext.{pumped_once, leaves_from, server_leaves, response_leaves}
 use Rattle.homa_plain.specs.Timers.{OfServer}
@@ -37,7 +37,7 @@ use Rattle.host_view.specs.Seen.{ready_of, waiting}
 use Rattle.homa_pacer.specs.Pace as pace
 use Rattle.host_books.specs.declared.books.Books.{Books}
 use Rattle.host_books.specs.Duties.{ready_in}
-use Rattle.host_books.specs.Duty.{server_duty, followed}
+use Rattle.host_books.specs.Duty.{server_duty, arrival_duty, arriving, followed}
 use Rattle.host_books.proofs.PumpOnce.{picked, idle_ready, sends_next, server_departs, server_waits, server_rests, RestsIn, server_sends_next}
 use Rattle.host_books.proofs.PumpOnce.{server_short, some_next, shorter, booked_length}
 use Rattle.host_laws.specs.Peers.{KnowsClient}
@@ -48,14 +48,21 @@ use Rattle.homa_host.specs.Amid.{WasSent, WasIdle, WasShort}
 use Rattle.homa_host.proofs.Begun.{at-amid, amid-at, rest-amid}
 use Rattle.homa_host.proofs.SlotRows.{server_row, server_standing, kept_slots}
 use Rattle.homa_host.proofs.ClientKept.{own_like}
-use Rattle.homa_host.specs.ServerFollow.{FollowedServer}
+use Rattle.homa_host.specs.ServerFollow.{WentOnServer}
 use Rattle.homa_host.specs.declared.outcome.Change.TheVariants.{Stays}
 use Rattle.homa_host.specs.ServerFollow.{CanFollowServer}
 use Rattle.homa_host.proofs.ClientStays.{Beside, spends, kept_spent}
 use Rattle.homa_host.proofs.Emits.{few_ready, picked_in}
-use Rattle.homa_host.proofs.ServerStays.{knows, all_inside, host_put, kept_same, amid_same, stands_after, can_follow, followed_by, kept_stays}
+use Rattle.homa_host.proofs.ServerStays.{knows, all_inside, host_put, kept_same, amid_same, stands_after, can_follow, went_on, kept_stays}
 
 -- ---- what a row emits
+
+-- what is sent changes nothing that arrives
+sends_arrival : (s : Settings) (now : ℕ) (state : State) → arrival_duty (arriving (state_sends s now state)) ≡ arrival_duty (arriving state)
+sends_arrival s now (Receiving service part base count) = refl
+sends_arrival s now (Held response release) = refl
+sends_arrival s now (Replying response out order base count) = refl
+sends_arrival s now (Buried until) = refl
 
 -- a response goes out
 pub record IsAnswering (state : HeldState) : Type 0 where
@@ -287,10 +294,10 @@ module _ (c : HostParts) (kept : IsKept c) (place : ℕ) (n : IsNext c place) wh
       sent_follows = can_follow paid paid_kept n.id place n.row n.stands servers sent_row x.moved sent_own sent_known calls
           (record c.books { pacer = pacer }) calls_are (λ i. record c.books { pacer = spent i })
 
-      module _ (books : Books) (follows : FollowedServer servers calls (Stays place) (record c.books { pacer = pacer }) books) where
+      module _ (books : Books) (went : WentOnServer servers calls place (record c.books { pacer = pacer }) books) where
         followed_sent : books ≡ followed slot (server_duty c.control.settings sent_row) (spends (to - from) c.books)
-        followed_sent = followed_by paid paid_kept n.id place n.row n.stands servers sent_row x.moved calls (record c.books { pacer = pacer }) books
-            calls_are (λ i. record c.books { pacer = spent i }) follows
+        followed_sent = went_on paid paid_kept n.id place n.row n.stands servers sent_row x.moved calls (record c.books { pacer = pacer }) books
+            calls_are (λ i. record c.books { pacer = spent i }) (sends_arrival c.control.settings c.control.last row.state) went
 
         pub sent_kept : (control : Control) → IsSound control → Beside c.control control
             → IsKept (record { control = control; clients = c.clients; servers = servers; pool = c.pool; books = books; order = c.order })

@@ -26,13 +26,16 @@ use Rattle.host_places.proofs.PlacedLaws.{spot-stands, one_call}
 use Rattle.homa_server.specs.Held.{HeldServer, HeldState, Arriving, Keeping, Answering, Gone, seen_server, seen_state, state_part}
 use Rattle.homa_server.specs.Table.{Servers, ServerMoved, seen_servers, request_at}
 use Rattle.host_state.specs.Control.{Control, IsSound}
+use Rattle.homa_grants.specs.Books.{Book}
+use Rattle.homa_grants.specs.Entries.{Entry}
 use Rattle.host_view.specs.declared.outbox.SentFrame.{SentFrame}
 use Rattle.host_view.specs.Follow.{ChangesAt, has_row, server_arrival}
 use Rattle.host_books.specs.declared.books.Arrival.{Arrival}
 use Rattle.host_books.specs.declared.books.Books.{Books}
 use Rattle.host_books.specs.Duties.{AreOwn, AreBooked, HaveRoom}
-use Rattle.host_books.specs.Duty.{server_duty, arrival_duty, arriving, followed}
+use Rattle.host_books.specs.Duty.{server_duty, server_duty_in, arrival_duty, arriving, followed}
 use Rattle.host_books.proofs.Changing.{books_stay}
+use Rattle.host_books.proofs.Rebooked.{rebooked}
 use Rattle.host_books.proofs.Tables.{made_of}
 use Rattle.host_books.proofs.Things.{thing_at}
 use Rattle.host_books.proofs.BookThings.{arrival_things}
@@ -42,12 +45,11 @@ use Rattle.homa_host.specs.declared.outcome.Change.TheVariants.{Stays}
 use Rattle.homa_host.specs.declared.parts.HostParts.{HostParts}
 use Rattle.homa_host.specs.Parts.{host_of, seen_of, IsKept}
 use Rattle.homa_host.specs.Amid.{Amid}
-use Rattle.homa_host.specs.ServerFollow.{MayStayServer, FollowedServer}
+use Rattle.homa_host.specs.ServerFollow.{MayStayServer, CanFollowServer, FollowedServer, WentOnServer}
 use Rattle.homa_host.proofs.Begun.{at-amid, amid-at, rest-amid}
 use Rattle.homa_host.proofs.SlotRows.{server_row, server_standing}
 use Rattle.homa_host.proofs.ClientKept.{own_like}
-use Rattle.homa_host.specs.ServerFollow.{CanFollowServer}
-use Rattle.homa_host.proofs.ClientStays.{Beside, beside_none, changes_like, kept_books, places_stay, put_same}
+use Rattle.homa_host.proofs.ClientStays.{Beside, beside_none, changes_like, changes_none, kept_books, places_stay, put_same}
 use Rattle.homa_host.proofs.ServerKept.{server_parts, requests_in, host_after, seen_after, changes, duty_own, kept_after}
 
 arrival_known : (n : ℕ) (state : State) → KnowsSender n state → IfSome (arrival_duty (arriving state)) (λ (a : Arrival). a.peer.0 < n)
@@ -84,6 +86,17 @@ module _ (c : HostParts) (kept : IsKept c) (id : CallId) (place : ℕ) (r : Held
         by_state (Keeping response release) e has = absurd (none_in a has)
         by_state (Answering response out order base count) e has = absurd (none_in a has)
         by_state (Gone until) e has = absurd (none_in a has)
+
+  -- what arrives in it is booked as it is
+  arrival_booked : (followed (c.control.settings.calls + place) (server_duty c.control.settings (seen_server c.pool r)) c.books).grants ≡ c.books.grants
+  arrival_booked =
+      let at = server_standing c id place r stands in
+      let anew = subst (λ (o : Option ServerRow). AreBooked (seen_of c)
+      (followed (c.control.settings.calls + place) (server_duty_in c.control.settings o) c.books))
+      (server_row c id place r stands)
+      (rebooked (OfServer id) (c.control.settings.calls + place) (seen_of c) (seen_of c)
+      (changes_none c kept (OfServer id) (c.control.settings.calls + place) at.1) (inl at.0) kept.own c.books kept.booked) in
+      ap (λ (es : List Entry). record c.books.grants { entries = es }) (anew.entered ∙ sym kept.booked.entered)
 
   pub at_place : (x : Placed HeldServer) → get c.servers.rows id ≡ Some x → x.place ≡ place
   at_place x e = ap (λ (x : Placed HeldServer). x.place) (same_some x (record { place = place; row = r }) (sym e ∙ stands))
@@ -231,6 +244,18 @@ module _ (c : HostParts) (kept : IsKept c) (id : CallId) (place : ℕ) (r : Held
         within = within_after;
         small = small_after;
       })
+
+    -- the books of the row, where what arrives in it is what arrived before
+    pub went_on : (calls : ℕ) (books after : Books) → calls ≡ c.control.settings.calls → books ≡ c.books
+        → arrival_duty (arriving row.state) ≡ arrival_duty (arriving (seen_server c.pool r).state) → WentOnServer servers calls place books after
+        → after ≡ followed (c.control.settings.calls + place) (server_duty c.control.settings row) c.books
+    went_on calls books after n e same went =
+        let slot = c.control.settings.calls + place in
+        let duty = server_duty c.control.settings row in
+        let is = subst (λ (x : ℕ × Books). WentOnServer servers x.0 place x.1 after) (λ i. (n i, e i)) went in
+        is id stands_after.0 c.pool stands_after.1 inside_after ∙ ap (λ d. record (followed slot d c.books) { grants = c.books.grants }) duty_after
+        ∙ ap (λ (g : Book). record (followed slot duty c.books) { grants = g })
+        (sym (ap (λ (a : Option Arrival). (followed slot (record duty { arrival = a }) c.books).grants) same ∙ arrival_booked))
 
     -- the books followed
     pub followed_by : (calls : ℕ) (books after : Books) → calls ≡ c.control.settings.calls → books ≡ c.books

@@ -19,6 +19,8 @@ use Rattle.step_laws.proofs.Others.{get-set_row}
 use Rattle.step_laws.proofs.OwnOrders.{starts-own, begun-own}
 use Rattle.host_books.specs.declared.books.Arrival.{Arrival}
 use Rattle.host_books.specs.declared.books.Duties.{Duties}
+use Rattle.homa_host.specs.Outcomes.{CanFollowClient, FollowedClient}
+use Rattle.homa_host.specs.declared.outcome.Change.TheVariants.{Stays}
 use Rattle.homa_host.proofs.Begun.{kept-control, sound-begun}
 use Rattle.msg_pool.specs.Pool.{leased_pages}
 use Rattle.homa_in.specs.Part.{Part}
@@ -256,7 +258,7 @@ starts-is p server service request now clients slot id host inc settings started
 -- ---- all of it
 
 -- what has no arrival owes the grants' book nothing
-pub no-arrival : (P : Arrival → Type 0) (d e : Duties) → d ≡ e → e.arrival ≡ None → IfSome d.arrival P
+no-arrival : (P : Arrival → Type 0) (d e : Duties) → d ≡ e → e.arrival ≡ None → IfSome d.arrival P
 no-arrival P d e same none = subst (λ (o : Option Arrival). IfSome o P) (sym (ap (λ (d : Duties). d.arrival) same ∙ none)) tt
 
 module _ (o : HostParts) (kept : IsKept o) (server : HostId) (service : ℕ) (request : List ℕ) (now : ℕ) (clients : Clients) (slot : ℕ) (id : CallId)
@@ -301,15 +303,42 @@ module _ (o : HostParts) (kept : IsKept o) (server : HostId) (service : ℕ) (re
   abbrev pub new_duty : Duties
   new_duty = client_duty o.control.settings new_row
 
-  pub duty-is : (d : Duties) → d ≡ client_duty clients.settings (seen_row o.pool held_row) → d ≡ new_duty
+  abbrev there : Duties
+  there = client_duty clients.settings (seen_row o.pool held_row)
+
+  duty-is : (d : Duties) → d ≡ client_duty clients.settings (seen_row o.pool held_row) → d ≡ new_duty
   duty-is d e =
       let settings : clients.settings ≡ o.control.settings = ap (λ (t : Clients). t.settings) started.kept ∙ kept.one.client_settings in
       e ∙ (λ i. client_duty (settings i) (held_is base base_kept server service request now o.order clients slot id started kept.one.client_settings i))
 
-  pub own-there : (d : Duties) → d ≡ new_duty → AreOwn o.books slot d
+  own-there : (d : Duties) → d ≡ new_duty → AreOwn o.books slot d
   own-there d e =
       subst (AreOwn o.books slot) (sym e)
       (duty_own base base_kept server service request now o.order clients slot id started kept.one.client_settings own_after)
+
+  -- the books can follow the row
+  pub can-follow : CanFollowClient clients o.books (Stays slot)
+  can-follow =
+      let settings : clients.settings ≡ o.control.settings = ap (λ (t : Clients). t.settings) started.kept ∙ kept.one.client_settings in
+      let places = placed_after base base_kept server service request now o.order clients slot id started kept.one.client_settings in
+      record {
+        stands = spot-there;
+        may = record {
+          id = id;
+          row = held_row;
+          pool = o.pool;
+          stands = stands-there;
+          inside = in-pool;
+          peer = no-arrival _ there new_duty (duty-is there refl) refl;
+          own = own-there there (duty-is there refl);
+        };
+        room = subst (λ (s : Settings). HaveRoom s o.books) (sym settings) kept.room;
+        within = subst (λ (s : Settings). slot < s.calls) (sym settings) (places.within id (record { place = slot; row = held_row }) stands-there);
+      }
+
+  -- and are those of the new row then
+  pub followed-there : (books : Books) → FollowedClient clients (Stays slot) o.books books → books ≡ followed slot new_duty o.books
+  followed-there books follows = follows id held_row o.pool stands-there in-pool ∙ ap (λ (d : Duties). followed slot d o.books) (duty-is there refl)
 
   pub kept-there : (control : Control) (books : Books) → control ≡ record o.control { last = now; marks = control.marks } → length control.marks ≤ 128
       → books ≡ followed slot new_duty o.books → server.0 < o.control.settings.hosts

@@ -1,6 +1,7 @@
 pub mod Parts
 pub mod Amid
 pub mod Outcomes
+pub mod Settled
 pub mod Public
 pub mod ServerFollow
 pub mod Asking

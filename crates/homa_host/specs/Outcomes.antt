@@ -166,3 +166,8 @@ FollowedClient t Nothing old new = new ≡ old
 FollowedClient t (Stays slot) old new = (id : CallId) (r : HeldRow) (pool : Pool) → StandsAt t.rows id slot r → IsInPool pool r.part
     → new ≡ followed slot (client_duty t.settings (seen_row pool r)) old
 FollowedClient t (Goes slot) old new = new ≡ followed slot no_duties old
+
+-- the books when they followed a client's row in which nothing new arrives: what arrives stays as it is booked
+abbrev pub WentOnClient : Clients → ℕ → Books → Books → Type 0
+WentOnClient t slot old new = (id : CallId) (r : HeldRow) (pool : Pool) → StandsAt t.rows id slot r → IsInPool pool r.part
+    → new ≡ record (followed slot (client_duty t.settings (seen_row pool r)) old) { grants = old.grants }

@@ -42,6 +42,11 @@ FollowedServer t calls (Stays place) old new = (id : CallId) (r : HeldServer) (p
     → new ≡ followed (calls + place) (server_duty t.settings (seen_server pool r)) old
 FollowedServer t calls (Goes place) old new = new ≡ followed (calls + place) no_duties old
 
+-- the books that followed a row in which nothing new arrives: what arrives stays as it is booked
+abbrev pub WentOnServer : Servers → ℕ → ℕ → Books → Books → Type 0
+WentOnServer t calls place old new = (id : CallId) (r : HeldServer) (pool : Pool) → StandsAt t.rows id place r → AreIn pool (request_at t.rows)
+    → new ≡ record (followed (calls + place) (server_duty t.settings (seen_server pool r)) old) { grants = old.grants }
+
 -- what became of the row at a place that acted, and how many order numbers it took
 abbrev pub server_act_change : ServerAct → ℕ → Change
 server_act_change (act.Resend from to) place = Stays place

@@ -1,28 +1,31 @@
 // What packets of servers do to the calls that a host has made.
 // Rules: DATA of a response, GRANT and RESEND of a request, BUSY, UNKNOWN, and NEED_ACK, which an ACK or BUSY answers.
-ghost use Rattle.std.specs.Prelude.{◌≡◌, ◌+◌, ◌<◌, ◌^◌, Some, [], IsSome};
+ghost use Rattle.std.specs.Prelude.{◌≡◌, ℕ, ◌+◌, ◌<◌, ◌≤◌, ◌^◌, Option, Some, [], List, length, IsSome};
 ghost use Rattle.std.specs.List.{AllByRecursion};
 ghost use Rattle.homa_plain.specs.declared.id.CallId.{CallId};
 ghost use Rattle.homa_plain.specs.declared.packet.Role.TheVariants.{Server as OfServerRole};
 ghost use Rattle.homa_plain.specs.Wire.{IsWellFormed};
 ghost use Rattle.homa_plain.specs.Packets.{Packet as PlainPacket, packet_between};
-ghost use Rattle.homa_plain.specs.Rules.{Answer};
+ghost use Rattle.homa_plain.specs.Rows.{ClientRow};
+ghost use Rattle.homa_plain.specs.Rules.{Answer, Moment};
 ghost use Rattle.homa_plain.specs.Work.{Work};
-ghost use Rattle.homa_plain.specs.Steps.{comes_to_row};
+ghost use Rattle.homa_plain.specs.Steps.{comes_to_row, asked};
 ghost use Rattle.msg_pool.specs.Pool.{Pool};
 ghost use Rattle.homa_in.specs.Pieces.{piece_in};
 ghost use Rattle.host_places.specs.Placed.{StandsAt, spot_at};
 ghost use Rattle.homa_client.specs.Held.{HeldRow, seen_row};
-ghost use Rattle.homa_client.specs.AtTable.{version_at};
+ghost use Rattle.homa_client.specs.AtTable.{version_at, answer_of, IfSaid};
+ghost use Rattle.host_state.specs.Control.{IsAt, IsSound};
 ghost use Rattle.host_view.specs.Marks.{IsWhole};
 ghost use Rattle.homa_host.specs.Parts.{IsKept};
 ghost use Rattle.homa_host.specs.Amid.{Amid, Steady, HasRoom};
-ghost use Rattle.homa_host.specs.Outcomes.{head_in, IfTouched};
+ghost use Rattle.homa_host.specs.Outcomes.{head_in, length_in, client_orders, IfTouched};
 
 use crate::outcome::{PieceHead, client_change, client_orders, client_outcome, head_of};
 use crate::parts::{HostParts, follow_client};
 use homa_client::{ClientDid, ClientTable};
-use homa_plain::{HostId, Packet};
+use homa_plain::{Body, CallId, HostId, LONGEST_MESSAGE, Packet};
+use host_state::Control;
 use host_view::Outbox;
 use msg_pool::Scratch;
 
@@ -67,8 +70,46 @@ impl HostParts {
         let touched = touched_version(&self.clients, &did, head);
         follow_client(&mut self.books, &self.clients, client_change(&did));
         self.order += client_orders(&did);
-        let outcome = client_outcome(did, head, touched);
-        self.control.settle_client(id, from, outcome, out);
+        settle(&mut self.control, id, from, did, head, touched, out);
+    }
+}
+
+// What comes of a packet at its client is settled, beside its row. Of most packets nothing comes there.
+fn settle(
+    control: &mut Control,
+    id: CallId,
+    from: HostId,
+    did: ClientDid,
+    head: Option<PieceHead>,
+    touched: Option<u16>,
+    out: &mut Outbox,
+)
+    requires server { from.0 < control.old.settings.hosts }
+    requires call { 1 ≤ id.inc }
+    requires len { length_in head ≤ LONGEST_MESSAGE }
+    requires opened { control.old.tuning.opened + 1 < 2 ^ 64 }
+    requires said { IfSaid did (λ what. what ≡ Body.Busy) }
+    requires room { length control.old.marks + 4 ≤ 128 }
+    requires frames { length out.old + 3 ≤ 64 }
+    ensures step { (m : Moment) (p : PlainPacket) (row : Option ClientRow) (told : List ℕ) (w : Work) → head ≡ head_in p.body
+        → IfTouched did (λ _. touched ≡ version_at (piece_in p.body p.payload) row) → IsAt w control.old out.old
+        → IsAt (asked control.old.settings id from (answer_of m p row told did) w) control.new out.new }
+    ensures same { control.new ≡ record control.old { tuning = control.new.tuning; finished = control.new.finished; marks = control.new.marks } }
+    ensures no_fewer { control.old.tuning.opened ≤ control.new.tuning.opened }
+    ensures opened { control.new.tuning.opened ≤ control.old.tuning.opened + client_orders did }
+    ensures marks { length control.new.marks ≤ length control.old.marks + 4 }
+    ensures frames { length out.new ≤ length out.old + 3 }
+    ensures sound { IsSound control.new }
+{
+    // For the proof: the control is sound.
+    let _sound = control.settings();
+    match did {
+        ClientDid::Nothing => {}
+        ClientDid::Touched(_) if touched.is_none() => {}
+        did => {
+            let outcome = client_outcome(did, head, touched);
+            control.settle_client(id, from, outcome, out);
+        }
     }
 }
 

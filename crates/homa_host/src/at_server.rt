@@ -1,6 +1,6 @@
 // What packets of clients do to the calls that a host serves.
 // Rules: DATA of a request, GRANT and RESEND of a response, BUSY, UNKNOWN, and an ACK, which leaves a tombstone.
-ghost use Rattle.std.specs.Prelude.{◌≡◌, ℕ, Option, None, ◌+◌, ◌<◌, ◌≤◌, ◌^◌, Some, List, OnOk, OnErr, IsSome};
+ghost use Rattle.std.specs.Prelude.{◌≡◌, ℕ, Option, None, ◌+◌, ◌<◌, ◌≤◌, ◌^◌, Some, List, length, OnOk, OnErr, IsSome};
 ghost use Rattle.std.specs.List.{AllByRecursion};
 ghost use Rattle.std.specs.Option.{option_map};
 ghost use Rattle.plain_sets.specs.Maps.{get};
@@ -17,7 +17,7 @@ ghost use Rattle.msg_pool.specs.Pool.{Pool};
 ghost use Rattle.homa_in.specs.Pieces.{piece_in};
 ghost use Rattle.host_places.specs.Placed.{StandsAt, spot_at};
 ghost use Rattle.homa_server.specs.Held.{HeldServer, seen_server};
-ghost use Rattle.homa_server.specs.Answers.{version_there, service_in, acked_of};
+ghost use Rattle.homa_server.specs.Answers.{version_there, service_in, acked_of, IfSaid, IsAnswerBody};
 ghost use Rattle.host_state.specs.Saying.{IsOutcome, FitsSaid, outcome_marks, outcome_frames};
 ghost use Rattle.homa_plain.specs.Rows.{ServerRow};
 ghost use Rattle.host_view.specs.Marks.{response_of, IsReply, IsWhole};
@@ -26,15 +26,16 @@ ghost use Rattle.homa_host.specs.Asking.{HasAsked};
 ghost use Rattle.homa_host.specs.Amid.{Amid, Steady, HasRoom, HasCome};
 ghost use Rattle.homa_host.specs.Lending.{CanCome, IsSame, IsServed, IsRefused};
 ghost use Rattle.homa_host.specs.ServerFollow.{acked_change};
-ghost use Rattle.homa_host.specs.Outcomes.{head_in, IfServerTouched};
+ghost use Rattle.homa_host.specs.Outcomes.{head_in, length_in, IfServerTouched};
+ghost use Rattle.homa_host.specs.Settled.{SettledServer, is_quiet};
 
 use crate::lent::Lent;
 use crate::outcome::{Change, PieceHead, head_of, server_change, server_orders, server_outcome};
 use crate::parts::{HostParts, follow_server};
-use homa_plain::{Body, CallId, HostId, Packet};
+use homa_plain::{Body, CallId, HostId, LONGEST_MESSAGE, Packet};
 use homa_server::{ServerDid, ServerTable};
 use homa_service::Service;
-use host_state::{Outcome, Said};
+use host_state::{Control, Outcome, Said};
 use host_view::{Mark, Outbox};
 use std::alloc::{AllocError, Global};
 
@@ -96,8 +97,10 @@ impl HostParts {
         follow_server(&mut self.books, &self.servers, settings.calls, change);
         self.order += server_orders(&did);
         let number = service_of(&packet.body);
-        let outcome = server_outcome(did, id, number, settings.served, head, touched);
-        self.control.settle_server(id, outcome, lent.out);
+        if is_quiet(&did, touched) {
+            return Ok(());
+        }
+        settle(&mut self.control, id, did, number, head, touched, lent.out);
         Ok(())
     }
 
@@ -124,6 +127,41 @@ impl HostParts {
         let outcome = acked_outcome(id, acked);
         self.control.settle_server(id, outcome, out);
     }
+}
+
+// Whether nothing comes of a packet at its server beside its row.
+fn is_quiet(did: &ServerDid, touched: Option<u16>) -> bool
+    ensures { result ≡ is_quiet did.now touched }
+{
+    match did {
+        ServerDid::Nothing => true,
+        ServerDid::Touched(_) => touched.is_none(),
+        _ => false,
+    }
+}
+
+// What comes of a packet at its server is settled, beside its row; `number` is the service that the packet's piece is
+// for.
+fn settle(
+    control: &mut Control,
+    id: CallId,
+    did: ServerDid,
+    number: u8,
+    head: Option<PieceHead>,
+    touched: Option<u16>,
+    out: &mut Outbox,
+)
+    requires call { 1 ≤ id.inc }
+    requires len { length_in head ≤ LONGEST_MESSAGE }
+    requires opened { control.old.tuning.opened + 1 < 2 ^ 64 }
+    requires said { IfSaid did IsAnswerBody }
+    requires room { length control.old.marks + 3 ≤ 128 }
+    requires frames { length out.old + 2 ≤ 64 }
+    ensures { SettledServer id did number head touched control.old out.old control.new out.new }
+{
+    let limit = control.settings().served;
+    let outcome = server_outcome(did, id, number, limit, head, touched);
+    control.settle_server(id, outcome, out);
 }
 
 // The version in a first piece of the request that arrives in the row.

@@ -12,8 +12,7 @@ ghost use Rattle.homa_host.specs.Amid.{Amid, Steady, HasRoom};
 ghost use Rattle.host_books.specs.Ends.{grant_to};
 ghost use Rattle.host_view.specs.Follow.{ChangesAt};
 
-use crate::outcome::Change;
-use crate::parts::{HostParts, Place, follow_client, follow_server};
+use crate::parts::{HostParts, Place, client_goes_on, server_goes_on};
 use homa_in::Incoming;
 use homa_plain::{Body, CallId, HostId, LONGEST_MESSAGE, Role};
 use host_view::Outbox;
@@ -71,15 +70,13 @@ impl HostParts {
             Place::Client(place) => {
                 let facts = self.clients.row(place);
                 self.clients.granted(place, offset, now);
-                let change = Change::Stays(place);
-                follow_client(&mut self.books, &self.clients, change);
+                client_goes_on(&mut self.books, &self.clients, place);
                 (Role::Client, facts.id, facts.peer)
             }
             Place::Server(place) => {
                 let facts = self.servers.row(place);
                 self.servers.granted(place, offset, now);
-                let change = Change::Stays(place);
-                follow_server(&mut self.books, &self.servers, calls, change);
+                server_goes_on(&mut self.books, &self.servers, calls, place);
                 (Role::Server, facts.id, self.control.id())
             }
         }

@@ -248,7 +248,14 @@ impl Host {
         self.parts.control.marks().len()
     }
 
-    /// The mark of the last step's entry with this number, counted from 0: what is known of it without its bytes.
+    /// The marks of the last step's entries, in order: what is known of them without their bytes.
+    pub fn marks(&self) -> &[Mark]
+        ensures { result.now ≡ self.now.marks }
+    {
+        self.parts.control.marks()
+    }
+
+    /// The mark of the last step's entry with this number, counted from 0.
     pub fn mark(&self, i: usize) -> &Mark
         requires { i < length self.now.marks }
         ensures { slice_get self.now.marks i ≡ Some result.now }

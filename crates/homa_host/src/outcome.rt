@@ -316,6 +316,26 @@ fn deadline_of(facts: &RowFacts, at: Option<u64>) -> Option<Deadline>
     })
 }
 
+/// The timer of the client's row at a place.
+pub(crate) fn client_timer(clients: &ClientTable, place: u32) -> Option<Deadline>
+    requires stands { IsSome (spot_at clients.now.rows place) }
+    ensures { (id : CallId) (r : HeldRow) (pool : Pool) → StandsAt clients.now.rows id place r → IsInPool pool r.part
+        → result ≡ (client_duty clients.now.settings (seen_row pool r)).timer }
+{
+    let facts = clients.row(place);
+    deadline_of(&facts, clients.deadline(place))
+}
+
+/// What waits to be sent of the client's row at a place.
+pub(crate) fn client_waiting(clients: &ClientTable, place: u32) -> Option<Waiting>
+    requires stands { IsSome (spot_at clients.now.rows place) }
+    ensures { (id : CallId) (r : HeldRow) (pool : Pool) → StandsAt clients.now.rows id place r → IsInPool pool r.part
+        → result ≡ (client_duty clients.now.settings (seen_row pool r)).waiting }
+{
+    let facts = clients.row(place);
+    waiting_of(&facts)
+}
+
 /// What the client's row at a place has in the books.
 pub(crate) fn client_duties(clients: &ClientTable, place: u32) -> Duties
     requires stands { IsSome (spot_at clients.now.rows place) }
@@ -328,6 +348,26 @@ pub(crate) fn client_duties(clients: &ClientTable, place: u32) -> Duties
         arrival: arrival_of(clients.incoming(place)),
         waiting: waiting_of(&facts),
     }
+}
+
+/// The timer of the server's row at a place.
+pub(crate) fn server_timer(servers: &ServerTable, place: u32) -> Option<Deadline>
+    requires stands { IsSome (spot_at servers.now.rows place) }
+    ensures { (id : CallId) (r : HeldServer) (pool : Pool) → StandsAt servers.now.rows id place r → AreIn pool (request_at servers.now.rows)
+        → result ≡ (server_duty servers.now.settings (seen_server pool r)).timer }
+{
+    let facts = servers.row(place);
+    deadline_of(&facts, servers.deadline(place))
+}
+
+/// What waits to be sent of the server's row at a place.
+pub(crate) fn server_waiting(servers: &ServerTable, place: u32) -> Option<Waiting>
+    requires stands { IsSome (spot_at servers.now.rows place) }
+    ensures { (id : CallId) (r : HeldServer) (pool : Pool) → StandsAt servers.now.rows id place r → AreIn pool (request_at servers.now.rows)
+        → result ≡ (server_duty servers.now.settings (seen_server pool r)).waiting }
+{
+    let facts = servers.row(place);
+    waiting_of(&facts)
 }
 
 /// What the server's row at a place has in the books.

@@ -10,10 +10,14 @@ ghost use Rattle.homa_plain.specs.Steps.{starts, start_fault, next_id, ended};
 ghost use Rattle.homa_host.specs.Parts.{host_of, seen_of, IsKept};
 ghost use Rattle.homa_host.specs.Places.{IsPlaceOf};
 ghost use Rattle.homa_host.specs.Amid.{Amid, HasRoom, IsBegun};
-ghost use Rattle.homa_host.specs.ServerFollow.{CanFollowServer, FollowedServer};
-ghost use Rattle.homa_host.specs.Outcomes.{CanFollowClient, FollowedClient};
+ghost use Rattle.homa_host.specs.ServerFollow.{CanFollowServer, FollowedServer, WentOnServer};
+ghost use Rattle.homa_host.specs.Outcomes.{CanFollowClient, FollowedClient, WentOnClient};
+ghost use Rattle.homa_host.specs.declared.outcome.Change.TheVariants.{Stays};
 
-use crate::outcome::{Change, client_duties, server_duties};
+use crate::outcome::{
+    Change, client_duties, client_timer, client_waiting, server_duties, server_timer,
+    server_waiting,
+};
 use homa_client::ClientTable;
 use homa_plain::{CallId, HostId, LAST_HOST_TICK, Settings, StartFault};
 use homa_server::ServerTable;
@@ -117,8 +121,7 @@ impl HostParts {
             service: number,
         });
         self.order += 1;
-        self.books
-            .follow(place, client_duties(&self.clients, place));
+        follow_client(&mut self.books, &self.clients, Change::Stays(place));
         Ok(id)
     }
 
@@ -153,9 +156,23 @@ pub(crate) fn follow_client(books: &mut Books, clients: &ClientTable, change: Ch
 {
     match change {
         Change::Nothing => {}
-        Change::Stays(place) => books.follow(place, client_duties(clients, place)),
+        Change::Stays(place) => {
+            let duties = client_duties(clients, place);
+            books.follow_timer(place, duties.timer);
+            books.follow_arrival(place, duties.arrival);
+            books.follow_waiting(place, duties.waiting);
+        }
         Change::Goes(place) => books.follow(place, Duties::none()),
     }
+}
+
+// The books follow a client's row in which nothing new arrives: what arrives stays as it is booked.
+pub(crate) fn client_goes_on(books: &mut Books, clients: &ClientTable, place: u32)
+    requires { CanFollowClient clients.now books.old (Stays place) }
+    ensures { WentOnClient clients.now place books.old books.new }
+{
+    books.follow_timer(place, client_timer(clients, place));
+    books.follow_waiting(place, client_waiting(clients, place));
 }
 
 // The books follow a change of a server's row, whose slots stand behind those of `calls` clients' rows.
@@ -165,7 +182,23 @@ pub(crate) fn follow_server(books: &mut Books, servers: &ServerTable, calls: u32
 {
     match change {
         Change::Nothing => {}
-        Change::Stays(place) => books.follow(calls + place, server_duties(servers, place)),
+        Change::Stays(place) => {
+            let slot = calls + place;
+            let duties = server_duties(servers, place);
+            books.follow_timer(slot, duties.timer);
+            books.follow_arrival(slot, duties.arrival);
+            books.follow_waiting(slot, duties.waiting);
+        }
         Change::Goes(place) => books.follow(calls + place, Duties::none()),
     }
+}
+
+// The books follow a server's row in which nothing new arrives: what arrives stays as it is booked.
+pub(crate) fn server_goes_on(books: &mut Books, servers: &ServerTable, calls: u32, place: u32)
+    requires { CanFollowServer servers.now calls books.old (Stays place) }
+    ensures { WentOnServer servers.now calls place books.old books.new }
+{
+    let slot = calls + place;
+    books.follow_timer(slot, server_timer(servers, place));
+    books.follow_waiting(slot, server_waiting(servers, place));
 }

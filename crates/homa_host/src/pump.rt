@@ -10,8 +10,7 @@ ghost use Rattle.homa_pacer.specs.Pace.{ready_key};
 ghost use Rattle.homa_host.specs.Parts.{IsKept};
 ghost use Rattle.homa_host.specs.Amid.{Amid, Steady, HasRoom, IsPumped};
 
-use crate::outcome::Change;
-use crate::parts::{HostParts, Place, follow_client, follow_server};
+use crate::parts::{HostParts, Place, client_goes_on, server_goes_on};
 use homa_plain::Emitted;
 use host_state::Leaving;
 use host_view::Outbox;
@@ -96,7 +95,7 @@ impl HostParts {
                 self.control
                     .send_request(facts.id, facts.peer, piece, request, out);
                 self.books.pacer.spend(to - from);
-                follow_client(&mut self.books, &self.clients, Change::Stays(place));
+                client_goes_on(&mut self.books, &self.clients, place);
                 Pumped::Sent
             }
         }
@@ -137,8 +136,7 @@ impl HostParts {
                 };
                 self.control.send_response(facts.id, piece, response, out);
                 self.books.pacer.spend(to - from);
-                let change = Change::Stays(place);
-                follow_server(&mut self.books, &self.servers, calls, change);
+                server_goes_on(&mut self.books, &self.servers, calls, place);
                 Pumped::Sent
             }
         }

@@ -1,5 +1,5 @@
 -- What the answers of the calls say: of a piece that was put into a part, and of a first piece.
-use Rattle.std.specs.Prelude.{◌≡◌, ◌<◌, ◌≤◌, ℕ, true, false, Some, None, List}
+use Rattle.std.specs.Prelude.{◌≡◌, ◌<◌, ◌≤◌, ℕ, true, false, Option, Some, None, IsSomeAnd, List}
 use Rattle.plain_sets.specs.Maps.{len}
 use Rattle.homa_plain.specs.declared.id.HostId.{HostId}
 use Rattle.homa_plain.specs.Host.{pages_for}
@@ -43,19 +43,22 @@ WasPut old part offset piece new after told TooMany = WasRefused (seen old part)
 WasPut old part offset piece new after told Last = WasLast (seen old part) offset piece told old new part after
 WasPut old part offset piece new after told Taken = WasTaken (seen old part) offset piece old new part after
 
--- a message of so many bytes needs n pages, of which only m are free, and nothing changed
-pub record HasNoPages (size n m : ℕ) (old new : Pool) : Type 0 where
+-- a message of so many bytes needs n pages, of which only m are free, and nothing changed: there is no part
+pub record HasNoPages (size n m : ℕ) (old new : Pool) (part : Option Part) : Type 0 where
   pub few : free_pages old < pages_for size
   pub need : n ≡ pages_for size
   pub free : m ≡ free_pages old
   pub same_pool : new ≡ old
+  pub no_part : part ≡ None
 
--- the message p, of which nothing had arrived, is whole with the piece, and these are its bytes; the pool stays
-pub record IsWholeAtOnce (size : ℕ) (p : Incoming) (offset : ℕ) (piece told : List ℕ) (old new : Pool) : Type 0 where
+-- the message p, of which nothing had arrived, is whole with the piece, and these are its bytes; the pool stays, and
+-- there is no part
+pub record IsWholeAtOnce (size : ℕ) (p : Incoming) (offset : ℕ) (piece told : List ℕ) (old new : Pool) (part : Option Part) : Type 0 where
   pub enough : pages_for size ≤ free_pages old
   pub whole : is_whole (with_bytes p offset piece) ≡ true
   pub message : told ≡ message (with_bytes p offset piece)
   pub same_pool : new ≡ old
+  pub no_part : part ≡ None
 
 -- the part is the message p, of which nothing had arrived, with the piece, and bytes are still missing
 pub record IsBegun (size : ℕ) (p : Incoming) (offset : ℕ) (piece : List ℕ) (old new : Pool) (part : Part) : Type 0 where
@@ -66,8 +69,10 @@ pub record IsBegun (size : ℕ) (p : Incoming) (offset : ℕ) (piece : List ℕ)
   pub length : part.length ≡ size
   pub moves : Moves old None new (Some part)
 
--- what each answer says of the first piece of a message of so many bytes
-abbrev pub WasOpened : Pool → HostId → ℕ → ℕ → ℕ → ℕ → List ℕ → Pool → List ℕ → Opening → Type 0
-WasOpened old peer size order unsched offset piece new told (Full need free) = HasNoPages size need free old new
-WasOpened old peer size order unsched offset piece new told Whole = IsWholeAtOnce size (opened peer size order unsched) offset piece told old new
-WasOpened old peer size order unsched offset piece new told (Begun part) = IsBegun size (opened peer size order unsched) offset piece old new part
+-- what each answer says of the first piece of a message of so many bytes, and of the part after the call
+abbrev pub WasOpened : Pool → HostId → ℕ → ℕ → ℕ → ℕ → List ℕ → Pool → Option Part → List ℕ → Opening → Type 0
+WasOpened old peer size order unsched offset piece new part told (Full need free) = HasNoPages size need free old new part
+WasOpened old peer size order unsched offset piece new part told Whole =
+    IsWholeAtOnce size (opened peer size order unsched) offset piece told old new part
+WasOpened old peer size order unsched offset piece new part told Begun =
+    IsSomeAnd part (λ p. IsBegun size (opened peer size order unsched) offset piece old new p)

@@ -45,19 +45,21 @@ pub fn put_piece(
 }
 
 /// What the first piece of a message did.
-#[derive(Drop)]
+#[derive(Clone, Copy, Debug, PartialEq, Eq)]
 pub enum Opening {
     /// The message needs more pages than are free, and nothing changed.
     Full { need: u32, free: u32 },
     /// The piece is the whole message. The pool is as before.
     Whole,
-    /// The message, of which the piece has arrived.
-    Begun(Incoming),
+    /// The piece has arrived, and bytes are still missing.
+    Begun,
 }
 
 /// Opens a message by its first piece: its sender may send the first `unsched` bytes without a grant. If the piece is
-/// all of it, `scratch` becomes the message.
+/// all of it, `scratch` becomes the message. If bytes are still missing, `part` becomes what has arrived of it; else
+/// `part` stays None.
 pub fn open_part(
+    part: &mut Option<Incoming>,
     peer: HostId,
     piece: Piece<'_>,
     order: u64,
@@ -65,15 +67,17 @@ pub fn open_part(
     pool: &mut MsgPool,
     scratch: &mut Scratch,
 ) -> Opening
+    requires none { part.old ≡ None }
     requires some { 0 < length piece.bytes.now }
     requires fits { piece.offset + length piece.bytes.now ≤ piece.size }
     requires small { piece.size ≤ LONGEST_MESSAGE }
-    ensures { WasOpened pool.old peer piece.entry.size order unsched piece.entry.offset piece.entry.bytes.now pool.new scratch.new result }
+    ensures { WasOpened pool.old peer piece.entry.size order unsched piece.entry.offset piece.entry.bytes.now
+        pool.new part.new scratch.new result }
 {
     if piece.bytes.len() == piece.size as usize {
         return open_whole(piece.bytes, pool, scratch);
     }
-    open_by_piece(peer, piece, order, unsched, pool, scratch)
+    open_by_piece(part, peer, piece, order, unsched, pool, scratch)
 }
 
 // The message isn't opened, since too few pages are free.
@@ -86,17 +90,16 @@ fn no_pages(full: PoolFull) -> Opening
     }
 }
 
-// Opens a message of which these are all the bytes. No part is made of it; a lease only tells whether there are pages for it.
-fn open_whole(bytes: &[u8], pool: &mut MsgPool, scratch: &mut Scratch) -> Opening
+// Opens a message of which these are all the bytes. It takes no pages, but is opened only if they are free.
+fn open_whole(bytes: &[u8], pool: &MsgPool, scratch: &mut Scratch) -> Opening
     requires some { 0 < length bytes.now }
     requires small { length bytes.now ≤ LONGEST_MESSAGE }
     ensures { (peer : HostId) (order unsched : ℕ)
-        → WasOpened pool.old peer (length bytes.now) order unsched 0 bytes.now pool.new scratch.new result }
+        → WasOpened pool.now peer (length bytes.now) order unsched 0 bytes.now pool.now None scratch.new result }
 {
-    match pool.take(bytes.len() as u32) {
+    match pool.check_room(bytes.len() as u32) {
         Err(full) => no_pages(full),
-        Ok(lease) => {
-            pool.give(lease);
+        Ok(()) => {
             scratch.set(bytes);
             Opening::Whole
         }
@@ -105,6 +108,7 @@ fn open_whole(bytes: &[u8], pool: &mut MsgPool, scratch: &mut Scratch) -> Openin
 
 // Opens a message of which the first piece is a part.
 fn open_by_piece(
+    part: &mut Option<Incoming>,
     peer: HostId,
     piece: Piece<'_>,
     order: u64,
@@ -112,22 +116,27 @@ fn open_by_piece(
     pool: &mut MsgPool,
     scratch: &mut Scratch,
 ) -> Opening
+    requires none { part.old ≡ None }
     requires some { 0 < length piece.bytes.now }
     requires fits { piece.offset + length piece.bytes.now ≤ piece.size }
     requires small { piece.size ≤ LONGEST_MESSAGE }
-    ensures { WasOpened pool.old peer piece.entry.size order unsched piece.entry.offset piece.entry.bytes.now pool.new scratch.new result }
+    ensures { WasOpened pool.old peer piece.entry.size order unsched piece.entry.offset piece.entry.bytes.now
+        pool.new part.new scratch.new result }
 {
     let lease = match pool.take(piece.size) {
         Err(full) => return no_pages(full),
         Ok(lease) => lease,
     };
-    let mut part = Incoming::open(peer, piece.size, piece.size.min(unsched), order, lease);
-    match put_piece(&mut part, piece.offset, piece.bytes, pool, scratch) {
+    let mut begun = Incoming::open(peer, piece.size, piece.size.min(unsched), order, lease);
+    match put_piece(&mut begun, piece.offset, piece.bytes, pool, scratch) {
         Put::Last => {
-            pool.give(part.close());
+            pool.give(begun.close());
             Opening::Whole
         }
-        Put::Taken => Opening::Begun(part),
+        Put::Taken => {
+            *part = Some(begun);
+            Opening::Begun
+        }
         Put::TooMany => unreachable!(),
     }
 }

@@ -1,5 +1,5 @@
 -- What a sink that holds lines back has.
-use Rattle.std.specs.Prelude.{◌≡◌, ◌≤◌, ℕ, ◌-◌, length, Option, List, Result, OnOk, OnErr, drop, vec_capacity}
+use Rattle.std.specs.Prelude.{◌≡◌, ◌≤◌, ℕ, ◌-◌, length, Option, List, Result, OnOk, OnErr, take, drop}
 use Rattle.homa_io.specs.Outside.{HasRisen, Grows}
 use Rattle.homa_io.specs.declared.held_text.Room.{Room}
 use Rattle.homa_io.specs.declared.held_text.HeldText.{HeldText}
@@ -7,15 +7,15 @@ use Rattle.homa_io.specs.declared.held.HeldSink.{HeldSink}
 
 -- how many bytes the room has
 abbrev pub room_size : Room → ℕ
-room_size room = vec_capacity room.bytes
+room_size room = length room.bytes.items
 
 -- the bytes of a text that are held
 abbrev pub text_bytes : HeldText → List ℕ
-text_bytes text = drop text.sent text.bytes.items
+text_bytes text = drop text.sent (take text.len text.bytes.items)
 
 -- how many more bytes fit in it, after those that are held
 abbrev pub text_space : HeldText → ℕ
-text_space text = 65536 - length text.bytes.items
+text_space text = 65536 - text.len
 
 -- the sink below
 abbrev pub sink_below : {K : Type 0} → HeldSink K → K

@@ -1,5 +1,5 @@
 // The text that a sink holds back.
-ghost use Rattle.std.specs.Prelude.{◌≡◌, ◌≤◌, ◌+◌, ◌++◌, [], length, drop, vec_capacity, IfOk};
+ghost use Rattle.std.specs.Prelude.{◌≡◌, ◌≤◌, ◌+◌, ◌++◌, ℕ, List, [], length, take, drop, IfOk};
 
 use crate::NoMemory;
 use std::alloc::Global;
@@ -7,11 +7,26 @@ use std::alloc::Global;
 // The most bytes that are held.
 pub(crate) const ROOM: usize = 65536;
 
+/// A text that is made where it is to stand.
+pub trait MadeInPlace {
+    /// The bytes of the text.
+    ghost text: { Self → List ℕ };
+
+    /// How many bytes it has.
+    fn len(&self) -> usize
+        ensures { result ≡ length (text self.now) };
+
+    /// Makes it in `out`, which has as many bytes.
+    fn make(&self, out: &mut [u8])
+        requires { length out.old ≡ length (text self.now) }
+        ensures { out.new ≡ text self.now };
+}
+
 /// Room for the lines that are held, which is taken before a sink is lent.
 #[derive(Drop)]
 pub struct Room {
     bytes: Vec<u8>,
-    ghost reserved: { 65536 ≤ vec_capacity bytes },
+    ghost filled: { length bytes.items ≡ 65536 },
 }
 
 impl Room {
@@ -21,21 +36,43 @@ impl Room {
     pub fn new(alloc: Global) -> Result<Room, NoMemory>
         ensures { IfOk result (λ room. 65536 ≤ room_size room) }
     {
-        Ok(Room {
-            bytes: Vec::with_capacity(alloc, ROOM)?,
-        })
+        let mut bytes = Vec::with_capacity(alloc, ROOM)?;
+        bytes.resize(ROOM, 0)?;
+        Ok(Room { bytes })
     }
+}
+
+// Writes bytes over those of a list, from a place on.
+#[inline(always)]
+fn put_at(room: &mut [u8], from: usize, bytes: &[u8])
+    requires { from + length bytes.now ≤ length room.old }
+    ensures len { length room.new ≡ length room.old }
+    ensures front { take (from + length bytes.now) room.new ≡ take from room.old ++ bytes.now }
+{
+    room[from..from + bytes.len()].copy_from_slice(bytes);
+}
+
+// Makes a text over the bytes of a list, from a place on.
+#[inline(always)]
+fn make_at<M: MadeInPlace>(room: &mut [u8], from: usize, made: &M)
+    requires { from + length (M.text made.now) ≤ length room.old }
+    ensures len { length room.new ≡ length room.old }
+    ensures front { take (from + length (M.text made.now)) room.new ≡ take from room.old ++ M.text made.now }
+{
+    made.make(&mut room[from..from + made.len()]);
 }
 
 /// The bytes that are held, 65,536 at most. More of them are added in room that was taken before.
 #[derive(Drop)]
 pub struct HeldText {
+    // The bytes are the first `len` of these.
     bytes: Vec<u8>,
-    // How many of `bytes` went out already, before a fault.
+    len: usize,
+    // How many of them went out already, before a fault.
     sent: usize,
-    ghost within: { sent ≤ length bytes.items },
-    ghost most: { length bytes.items ≤ 65536 },
-    ghost reserved: { 65536 ≤ vec_capacity bytes },
+    ghost within: { sent ≤ len },
+    ghost most: { len ≤ 65536 },
+    ghost filled: { length bytes.items ≡ 65536 },
 }
 
 impl HeldText {
@@ -46,9 +83,11 @@ impl HeldText {
         ensures none { text_bytes result ≡ [] }
         ensures space { text_space result ≡ 65536 }
     {
-        let mut bytes = room.bytes;
-        bytes.clear();
-        HeldText { bytes, sent: 0 }
+        HeldText {
+            bytes: room.bytes,
+            len: 0,
+            sent: 0,
+        }
     }
 
     /// Adds bytes at the end, for which there must be room.
@@ -58,8 +97,19 @@ impl HeldText {
         ensures bytes { text_bytes self.new ≡ text_bytes self.old ++ bytes.now }
         ensures space { text_space self.new + length bytes.now ≡ text_space self.old }
     {
-        // The room was reserved, so no memory is taken here, and this can't fail.
-        self.bytes.extend_from_slice(bytes).unwrap();
+        put_at(&mut self.bytes, self.len, bytes);
+        self.len += bytes.len();
+    }
+
+    /// Adds a text at the end, for which there must be room. It is made where it stands.
+    #[inline(always)]
+    pub fn add_made<M: MadeInPlace>(&mut self, made: &M)
+        requires fits { length (M.text made.now) ≤ text_space self.old }
+        ensures bytes { text_bytes self.new ≡ text_bytes self.old ++ M.text made.now }
+        ensures space { text_space self.new + length (M.text made.now) ≡ text_space self.old }
+    {
+        make_at(&mut self.bytes, self.len, made);
+        self.len += made.len();
     }
 
     // How many more bytes fit.
@@ -67,7 +117,7 @@ impl HeldText {
     pub(crate) fn space(&self) -> usize
         ensures { result ≡ text_space self.now }
     {
-        ROOM - self.bytes.len()
+        ROOM - self.len
     }
 
     // The bytes that are held.
@@ -75,7 +125,7 @@ impl HeldText {
         ensures rest { result.now ≡ text_bytes self.now }
         ensures most { length result.now ≤ 65536 }
     {
-        &self.bytes[self.sent..]
+        &self.bytes[self.sent..self.len]
     }
 
     // So many bytes went out.
@@ -91,7 +141,7 @@ impl HeldText {
         ensures none { text_bytes self.new ≡ [] }
         ensures space { text_space self.new ≡ 65536 }
     {
-        self.bytes.clear();
+        self.len = 0;
         self.sent = 0;
     }
 }

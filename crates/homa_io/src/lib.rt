@@ -19,7 +19,7 @@ mod source;
 mod sure;
 
 pub use held::HeldSink;
-pub use held_text::{HeldText, Room};
+pub use held_text::{HeldText, MadeInPlace, Room};
 pub use memory::{MemSink, MemSource};
 pub use real::{StdSink, StdSource};
 pub use sink::{Sink, WriteFailed, write_all};

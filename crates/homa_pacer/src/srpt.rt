@@ -7,7 +7,7 @@ ghost use Rattle.homa_plain.specs.SentNext.{least};
 ghost use Rattle.homa_pacer.specs.Pace.{ready_key, without, IsOwnOrder, IsSound};
 
 use crate::Pacer;
-use host_heap::{first, replace};
+use host_heap::{first, put, take_out};
 use place_heap::Key;
 
 impl Pacer {
@@ -26,7 +26,7 @@ impl Pacer {
             first: u64::from(left),
             second: order,
         };
-        replace(&mut self.heap, slot, Some(key));
+        put(&mut self.heap, slot, key);
     }
 
     /// The message of a slot may not be sent any more, if it might.
@@ -35,7 +35,7 @@ impl Pacer {
         ensures idle { self.new ≡ record self.old { ready = without slot self.old.ready } }
         ensures sound { IsSound self.new }
     {
-        replace(&mut self.heap, slot, None);
+        take_out(&mut self.heap, slot);
     }
 
     /// The slot of the message to be sent next, if any may be sent.

@@ -6,9 +6,9 @@ ghost use Rattle.homa_plain.specs.Entries.{plain};
 ghost use Rattle.homa_plain.specs.Text.{line_text};
 ghost use Rattle.homa_plain.specs.Told.{HasLine};
 
-use homa_io::{HeldSink, Sink, WriteFailed};
+use homa_io::{HeldSink, Sink, SureSink, WriteFailed};
 use homa_plain::Entry;
-use homa_text::put_held;
+use homa_text::{put_entry, put_held};
 
 /// A sink that may hold lines back. What it took includes what it holds.
 pub trait FlushSink: Sink {
@@ -53,5 +53,17 @@ impl<K: Sink + Drop> FlushSink for HeldSink<K> {
 
     fn put(&mut self, entry: &Entry<'_>) -> Result<(), WriteFailed> {
         put_held(self, entry)
+    }
+}
+
+impl FlushSink for SureSink {
+    ghost held = { λ s. [] };
+
+    fn flush(&mut self) -> Result<(), WriteFailed> {
+        Ok(())
+    }
+
+    fn put(&mut self, entry: &Entry<'_>) -> Result<(), WriteFailed> {
+        put_entry(self, entry)
     }
 }

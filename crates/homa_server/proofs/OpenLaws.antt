@@ -1,5 +1,5 @@
 -- The first piece of a request, as the plain rule takes it.
-use Rattle.std.proofs.Common.{◌≡◌, ◌<◌, ◌≤◌, ◌+◌, ℕ, Bool, true, false, eqb, cond, List, [], ◌∷◌, length, Some, None, Result, Ok, Err, refl, sym, ap}
+use Rattle.std.proofs.Common.{◌≡◌, ◌<◌, ◌≤◌, ◌+◌, ℕ, Bool, true, false, eqb, cond, List, [], ◌∷◌, length, Option, Some, None, Result, Ok, Err, refl, sym, ap}
 use Rattle.std.proofs.Common.{subst, ◌∙◌}
 use Rattle.std.specs.Result.{OnErr}
 use Rattle.std.proofs.lemmas.Bool.{eq-eqb, le-ltb, lt-leb}
@@ -85,7 +85,8 @@ module _ (s : Settings) (id : CallId) (host : HostId) (now order rows version nu
   abbrev row0 : List ℕ → ℕ → ServerRow
   row0 bytes hold = new_row s m id piece (record { bytes = bytes; hold = hold })
 
-  pub whole_did : (told bytes : List ℕ) (hold : ℕ) (row : HeldServer) → IsWholeAtOnce size (opened client size order s.unsched) offset xs told old new
+  pub whole_did : (told bytes : List ℕ) (hold : ℕ) (row : HeldServer) (part : Option Part)
+      → IsWholeAtOnce size (opened client size order s.unsched) offset xs told old new part
       → row ≡ record {
         order = order;
         state = cond (eqb hold 0) (Answering bytes (outgoing.opened (length bytes) s.unsched) (order + 1) now 0)
@@ -94,8 +95,8 @@ module _ (s : Settings) (id : CallId) (host : HostId) (now order rows version nu
       → (a : Answer) → a ≡ record { bytes = response_in row.state; hold = hold }
       → opens s m id piece a ≡ record (opening size (leaves m (Some (seen_server new row))))
       { order = cond (eqb hold 0) (order + 1 + 1) (order + 1); version = version_of piece; says = Tells (PlainRun host id number told a.bytes hold) ∷ [] }
-  whole_did told bytes hold row whole is a answer =
-      let first = here (λ (h : HostId). IsWholeAtOnce size (opened h size order s.unsched) offset xs told old new) whole in
+  whole_did told bytes hold row part whole is a answer =
+      let first = here (λ (h : HostId). IsWholeAtOnce size (opened h size order s.unsched) offset xs told old new part) whole in
       let kept : response_in row.state ≡ bytes = ap (λ (r : HeldServer). response_in r.state) is ∙ in_both (eqb hold 0) in
       let answered : a ≡ record { bytes = bytes; hold = hold } = answer ∙ ap (λ (b : List ℕ). record { bytes = b; hold = hold }) kept in
       opens-first s m id piece a room first.enough

@@ -65,7 +65,9 @@ pub fn open_row<V: Service>(
     ensures refused { OnErr result (IsRefused V.served lent.old lent.new) }
     ensures lent { IsSame V.allows lent.old lent.new }
 {
+    let mut part = None;
     match open_part(
+        &mut part,
         client,
         piece,
         at.order,
@@ -74,12 +76,11 @@ pub fn open_row<V: Service>(
         lent.scratch,
     ) {
         Opening::Full { need, free } => Ok(FirstPiece::FullPages { need, free }),
-        Opening::Begun(part) => Ok(FirstPiece::Begun(Row::receiving(
-            at.order,
-            piece.service,
-            part,
-            at.now,
-        ))),
+        Opening::Begun => {
+            let Some(part) = part else { unreachable!() };
+            let row = Row::receiving(at.order, piece.service, part, at.now);
+            Ok(FirstPiece::Begun(row))
+        }
         Opening::Whole => {
             let request = lent.scratch.bytes();
             let reply = lent.service.serve(alloc, piece.service, request)?;

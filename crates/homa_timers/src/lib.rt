@@ -17,7 +17,7 @@ ghost use Rattle.homa_plain.specs.Settings.{IsValid};
 ghost use Rattle.homa_timers.specs.Armed.{timer_key, without, IsOwnOrder, NoneDue, IsSound, item_of};
 
 use homa_plain::Settings;
-use host_heap::{first, replace};
+use host_heap::{first, put, take_out};
 use place_heap::{Key, PlaceHeap};
 use std::alloc::{AllocError, Global};
 use std::marker::Model;
@@ -66,7 +66,7 @@ impl Timers {
             first: at,
             second: order,
         };
-        replace(&mut self.heap, slot, Some(key));
+        put(&mut self.heap, slot, key);
     }
 
     /// Takes the timer of a slot away, if it has one.
@@ -76,7 +76,7 @@ impl Timers {
         ensures slots { self.new.slots ≡ self.old.slots }
         ensures sound { IsSound self.new }
     {
-        replace(&mut self.heap, slot, None);
+        take_out(&mut self.heap, slot);
     }
 
     /// The slot whose timer is due first at tick `now`, if any has come to its deadline.

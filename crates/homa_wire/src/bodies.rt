@@ -1,21 +1,37 @@
-// Readers of what follows a packet's header, one for each kind.
+// Readers of what follows a packet's header, one for each kind: its fields, if they fit the header, and the payload.
 ghost use Rattle.std.specs.Prelude.{◌≡◌, ◌≤◌};
 ghost use Rattle.std.specs.Int.{w32};
 ghost use Rattle.std.specs.Option.{option_map};
 ghost use Rattle.homa_plain.specs.Bytes.{number_at, two_at, times};
-ghost use Rattle.homa_plain.specs.Wire.{data_at, grant_at, resend_at, cutoffs_at, unknown_at, more_at, calls_at, body_at};
+ghost use Rattle.homa_plain.specs.Wire.{more_at};
+ghost use Rattle.homa_wire.specs.Checked.{fields_in};
 
 use crate::fields::{read_ack, read_two, read_u8, read_u16, read_u32};
+use crate::fits::{
+    fits_acks, fits_cutoffs, fits_grant, fits_need_ack, fits_piece, fits_resend, fits_unknown,
+    is_bare,
+};
+use crate::header::Header;
 use homa_plain::{Body, Cutoffs, More};
 
-#[tactic(auto, unfolding(homa_plain::specs::Wire::data_at))]
-fn read_data(bytes: &[u8]) -> Option<(Body, &[u8])>
-    ensures { option_map (λ x. (x.0, x.1.now)) result ≡ data_at bytes.now }
+#[tactic(auto, unfolding(homa_plain::specs::Wire::body_at, homa_plain::specs::Wire::data_at))]
+pub fn read_data(header: Header, bytes: &[u8]) -> Option<(Body, &[u8])>
+    ensures { option_map (λ x. (x.0, x.1.now)) result ≡ fields_in 1 header.role header.level bytes.now }
 {
     let ((length, offset), rest) = read_two(bytes)?;
     let (version, rest) = read_u16(rest)?;
     let (service, rest) = read_u8(rest)?;
-    let (ack, rest) = read_ack(rest)?;
+    let (ack, payload) = read_ack(rest)?;
+    if !fits_piece(
+        header.role,
+        header.level,
+        (length, offset),
+        service,
+        ack,
+        payload,
+    ) {
+        return None;
+    }
     let body = Body::Data {
         length,
         offset,
@@ -23,25 +39,42 @@ fn read_data(bytes: &[u8]) -> Option<(Body, &[u8])>
         service,
         ack,
     };
-    Some((body, rest))
+    Some((body, payload))
 }
 
-#[tactic(auto, unfolding(homa_plain::specs::Wire::grant_at))]
-fn read_grant(bytes: &[u8]) -> Option<(Body, &[u8])>
-    ensures { option_map (λ x. (x.0, x.1.now)) result ≡ grant_at bytes.now }
+#[tactic(auto, unfolding(homa_plain::specs::Wire::body_at, homa_plain::specs::Wire::grant_at))]
+pub fn read_grant(header: Header, bytes: &[u8]) -> Option<(Body, &[u8])>
+    ensures { option_map (λ x. (x.0, x.1.now)) result ≡ fields_in 2 header.role header.level bytes.now }
 {
     let (offset, rest) = read_u32(bytes)?;
     let (prio, rest) = read_u8(rest)?;
+    if !fits_grant(header.level, offset, prio, rest) {
+        return None;
+    }
     Some((Body::Grant { offset, prio }, rest))
 }
 
-#[tactic(auto, unfolding(homa_plain::specs::Wire::resend_at))]
-fn read_resend(bytes: &[u8]) -> Option<(Body, &[u8])>
-    ensures { option_map (λ x. (x.0, x.1.now)) result ≡ resend_at bytes.now }
+#[tactic(auto, unfolding(homa_plain::specs::Wire::body_at, homa_plain::specs::Wire::resend_at))]
+pub fn read_resend(header: Header, bytes: &[u8]) -> Option<(Body, &[u8])>
+    ensures { option_map (λ x. (x.0, x.1.now)) result ≡ fields_in 3 header.role header.level bytes.now }
 {
     let ((from, to), rest) = read_two(bytes)?;
     let (prio, rest) = read_u8(rest)?;
+    if !fits_resend(header.level, from, to, prio, rest) {
+        return None;
+    }
     Some((Body::Resend { from, to, prio }, rest))
+}
+
+/// Reads a BUSY, which has no fields.
+#[tactic(auto, unfolding(homa_plain::specs::Wire::body_at))]
+pub fn read_busy(header: Header, bytes: &[u8]) -> Option<(Body, &[u8])>
+    ensures { option_map (λ x. (x.0, x.1.now)) result ≡ fields_in 4 header.role header.level bytes.now }
+{
+    if !is_bare(header.level, bytes) {
+        return None;
+    }
+    Some((Body::Busy, bytes))
 }
 
 fn read_bounds(bytes: &[u8]) -> Option<([u32; 8], &[u8])>
@@ -57,21 +90,39 @@ fn read_bounds(bytes: &[u8]) -> Option<([u32; 8], &[u8])>
     Some((upto, rest))
 }
 
-#[tactic(auto, unfolding(homa_plain::specs::Wire::cutoffs_at))]
-fn read_cutoffs(bytes: &[u8]) -> Option<(Body, &[u8])>
-    ensures { option_map (λ x. (x.0, x.1.now)) result ≡ cutoffs_at bytes.now }
+#[tactic(auto, unfolding(homa_plain::specs::Wire::body_at, homa_plain::specs::Wire::cutoffs_at))]
+pub fn read_cutoffs(header: Header, bytes: &[u8]) -> Option<(Body, &[u8])>
+    ensures { option_map (λ x. (x.0, x.1.now)) result ≡ fields_in 5 header.role header.level bytes.now }
 {
     let (version, rest) = read_u16(bytes)?;
     let (upto, rest) = read_bounds(rest)?;
-    Some((Body::Cutoffs(Cutoffs { version, upto }), rest))
+    let cutoffs = Cutoffs { version, upto };
+    if !fits_cutoffs(header.level, &cutoffs, rest) {
+        return None;
+    }
+    Some((Body::Cutoffs(cutoffs), rest))
 }
 
-#[tactic(auto, unfolding(homa_plain::specs::Wire::unknown_at))]
-fn read_unknown(bytes: &[u8]) -> Option<(Body, &[u8])>
-    ensures { option_map (λ x. (x.0, x.1.now)) result ≡ unknown_at bytes.now }
+#[tactic(auto, unfolding(homa_plain::specs::Wire::body_at, homa_plain::specs::Wire::unknown_at))]
+pub fn read_unknown(header: Header, bytes: &[u8]) -> Option<(Body, &[u8])>
+    ensures { option_map (λ x. (x.0, x.1.now)) result ≡ fields_in 6 header.role header.level bytes.now }
 {
     let (reason, rest) = read_u8(bytes)?;
+    if !fits_unknown(header.role, header.level, reason, rest) {
+        return None;
+    }
     Some((Body::Unknown { reason }, rest))
+}
+
+/// Reads a NEED_ACK, which has no fields.
+#[tactic(auto, unfolding(homa_plain::specs::Wire::body_at))]
+pub fn read_need_ack(header: Header, bytes: &[u8]) -> Option<(Body, &[u8])>
+    ensures { option_map (λ x. (x.0, x.1.now)) result ≡ fields_in 7 header.role header.level bytes.now }
+{
+    if !fits_need_ack(header.role, header.level, bytes) {
+        return None;
+    }
+    Some((Body::NeedAck, bytes))
 }
 
 fn read_calls(count: u8, bytes: &[u8]) -> Option<(More, &[u8])>
@@ -100,29 +151,14 @@ fn read_more(count: u8, bytes: &[u8]) -> Option<(More, &[u8])>
     read_calls(further, bytes)
 }
 
-#[tactic(auto, unfolding(homa_plain::specs::Wire::calls_at))]
-fn read_acks(bytes: &[u8]) -> Option<(Body, &[u8])>
-    ensures { option_map (λ x. (x.0, x.1.now)) result ≡ calls_at bytes.now }
+#[tactic(auto, unfolding(homa_plain::specs::Wire::body_at, homa_plain::specs::Wire::calls_at))]
+pub fn read_acks(header: Header, bytes: &[u8]) -> Option<(Body, &[u8])>
+    ensures { option_map (λ x. (x.0, x.1.now)) result ≡ fields_in 8 header.role header.level bytes.now }
 {
     let (count, rest) = read_u8(bytes)?;
     let (more, rest) = read_more(count, rest)?;
-    Some((Body::Ack { more }, rest))
-}
-
-/// Reads the fields of the kind with this number.
-#[tactic(auto, unfolding(homa_plain::specs::Wire::body_at))]
-pub fn read_body(kind: u8, bytes: &[u8]) -> Option<(Body, &[u8])>
-    ensures { option_map (λ x. (x.0, x.1.now)) result ≡ body_at kind bytes.now }
-{
-    match kind {
-        1 => read_data(bytes),
-        2 => read_grant(bytes),
-        3 => read_resend(bytes),
-        4 => Some((Body::Busy, bytes)),
-        5 => read_cutoffs(bytes),
-        6 => read_unknown(bytes),
-        7 => Some((Body::NeedAck, bytes)),
-        8 => read_acks(bytes),
-        _ => None,
+    if !fits_acks(header.role, header.level, &more, rest) {
+        return None;
     }
+    Some((Body::Ack { more }, rest))
 }

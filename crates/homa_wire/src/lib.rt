@@ -11,6 +11,7 @@
 mod bodies;
 mod fields;
 mod fits;
+mod header;
 mod reading;
 mod writing;
 

@@ -1,14 +1,17 @@
 // Bytes read as a packet.
-ghost use Rattle.std.specs.Prelude.{◌≡◌, ◌≤◌, List, ℕ, IfSome, IfNone, None, length};
+ghost use Rattle.std.specs.Prelude.{◌≡◌, ◌≤◌, List, ℕ, IfSome, IfNone, None, Some, length};
 ghost use Rattle.std.specs.Option.{option_map};
 ghost use Rattle.homa_plain.specs.declared.packet.Packet.{Packet};
-ghost use Rattle.homa_plain.specs.Wire.{Between, Spells, packet_of, packet_at, packet_in};
+ghost use Rattle.homa_plain.specs.Wire.{Between, Spells, packet_in};
+ghost use Rattle.homa_wire.specs.Checked.{made};
 ghost use Rattle.homa_wire.specs.Part.{part};
 
-use crate::bodies::read_body;
-use crate::fields::{read_clock, read_two, read_u32, role_from};
-use crate::fits::is_well_formed;
-use homa_plain::Packet;
+use crate::bodies::{
+    read_acks, read_busy, read_cutoffs, read_data, read_grant, read_need_ack, read_resend,
+    read_unknown,
+};
+use crate::header::{Header, read_header};
+use homa_plain::{Body, Packet};
 
 /// Where a payload stands in its datagram: the bytes from `from` to `to` - 1.
 #[derive(Clone, Copy, Debug, PartialEq, Eq)]
@@ -17,56 +20,29 @@ pub struct Span {
     pub to: usize,
 }
 
-/// What follows version, kind, role and level.
-#[tactic(auto, unfolding(homa_plain::specs::Wire::packet_of))]
-fn read_fields(wire: u32, kind: u8, role: u8, level: u8, bytes: &[u8]) -> Option<(Packet, &[u8])>
-    ensures { option_map (λ x. (x.0, x.1.now)) result ≡ packet_of wire kind role level bytes.now }
+/// The packet with this header and with what was read of its kind, and the place of its payload. `_wire` is for the
+/// contract alone.
+fn whole(_wire: u32, bytes: &[u8], header: Header, read: (Body, &[u8])) -> (Packet, Span)
+    requires { Some (made header read.0, read.1.now) ≡ packet_in _wire bytes.now }
+    ensures read { Some (result.0, part bytes.now result.1) ≡ packet_in _wire bytes.now }
+    ensures span { (result.1.from ≤ result.1.to) × (result.1.to ≡ length bytes.now) }
+    ensures spelled { Spells _wire bytes.now result.0 (part bytes.now result.1) }
 {
-    let role = role_from(role)?;
-    let (sender, rest) = read_u32(bytes)?;
-    let ((inc, seq), rest) = read_two(rest)?;
-    let (at, rest) = read_clock(wire, rest)?;
-    let (body, rest) = read_body(kind, rest)?;
+    let (body, payload) = read;
     let packet = Packet {
-        role,
-        level,
-        sender,
-        inc,
-        seq,
-        at,
+        role: header.role,
+        level: header.level,
+        sender: header.sender,
+        inc: header.inc,
+        seq: header.seq,
+        at: header.at,
         body,
     };
-    Some((packet, rest))
-}
-
-/// Reads a packet that may not be well formed, and its payload.
-#[tactic(auto, unfolding(homa_plain::specs::Wire::packet_at))]
-fn read_packet(wire: u32, bytes: &[u8]) -> Option<(Packet, &[u8])>
-    ensures { option_map (λ x. (x.0, x.1.now)) result ≡ packet_at wire bytes.now }
-{
-    match bytes {
-        [version, kind, role, level, rest @ ..] => {
-            if u32::from(*version) == wire {
-                read_fields(wire, *kind, *role, *level, rest)
-            } else {
-                None
-            }
-        }
-        _ => None,
-    }
-}
-
-/// Reads the packet that the bytes spell, and its payload.
-#[tactic(auto, unfolding(homa_plain::specs::Wire::packet_in))]
-fn read_whole(wire: u32, bytes: &[u8]) -> Option<(Packet, &[u8])>
-    ensures { option_map (λ x. (x.0, x.1.now)) result ≡ packet_in wire bytes.now }
-{
-    let (packet, payload) = read_packet(wire, bytes)?;
-    if is_well_formed(wire, &packet, payload) {
-        Some((packet, payload))
-    } else {
-        None
-    }
+    let span = Span {
+        from: bytes.len() - payload.len(),
+        to: bytes.len(),
+    };
+    (packet, span)
 }
 
 /// Reads the bytes as a packet of version `wire`, 1 or 2, and returns it with the place of its payload, which
@@ -78,10 +54,17 @@ pub fn decode(bytes: &[u8], wire: u32) -> Option<(Packet, Span)>
     ensures spelled { IfSome result (λ r. Spells wire bytes.now r.0 (part bytes.now r.1)) }
     ensures none { IfNone result ((p : Packet) (payload : List ℕ) → Spells wire bytes.now p payload → ⊥) }
 {
-    let (packet, payload) = read_whole(wire, bytes)?;
-    let span = Span {
-        from: bytes.len() - payload.len(),
-        to: bytes.len(),
-    };
-    Some((packet, span))
+    let (header, rest) = read_header(wire, bytes)?;
+    // Each kind returns by itself, so that its fields go straight from the bytes into the result.
+    match header.kind {
+        1 => return Some(whole(wire, bytes, header, read_data(header, rest)?)),
+        2 => return Some(whole(wire, bytes, header, read_grant(header, rest)?)),
+        3 => return Some(whole(wire, bytes, header, read_resend(header, rest)?)),
+        4 => return Some(whole(wire, bytes, header, read_busy(header, rest)?)),
+        5 => return Some(whole(wire, bytes, header, read_cutoffs(header, rest)?)),
+        6 => return Some(whole(wire, bytes, header, read_unknown(header, rest)?)),
+        7 => return Some(whole(wire, bytes, header, read_need_ack(header, rest)?)),
+        8 => return Some(whole(wire, bytes, header, read_acks(header, rest)?)),
+        _ => None,
+    }
 }

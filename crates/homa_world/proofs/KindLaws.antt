@@ -1,8 +1,8 @@
 -- As what the entries of a step are counted, by their marks and by their datagrams.
-use Rattle.std.proofs.Common.{◌≡◌, ◌<◌, ℕ, zero, suc, ◌+◌, Option, Some, None, List, [], ◌∷◌, ◌++◌, length, map, slice_get, IfSome, IsSome, Contains}
-use Rattle.std.proofs.Common.{option_map, option_and_then, refl, sym, ap, subst, ◌∙◌, arith, true≢false}
-use Rattle.std.proofs.lemmas.List.Elements.{Contains-get_or}
-use Rattle.std.proofs.lemmas.Option.{slice_get-map, slice_get_within, get_or_from_slice_get}
+use Rattle.std.proofs.Common.{◌≡◌, ◌<◌, ℕ, Option, Some, None, List, [], ◌∷◌, ◌++◌, length, map, slice_get, IfSome, IsSome, Contains}
+use Rattle.std.proofs.Common.{option_and_then, refl, sym, ap, subst, ◌∙◌, arith, true≢false}
+use Rattle.std.proofs.lemmas.Option.{slice_get_within}
+use Rattle.homa_plain.specs.declared.id.HostId.{HostId}
 use Rattle.homa_plain.specs.declared.packet.Packet.{Packet}
 use Rattle.homa_plain.specs.declared.packet.Body.{Body}
 use Rattle.homa_plain.specs.declared.packet.Body.TheVariants as body
@@ -16,14 +16,21 @@ use Rattle.host_view.specs.declared.mark.Mark.TheVariants as mark
 use Rattle.host_view.specs.declared.outbox.SentFrame.{SentFrame}
 use Rattle.host_view.specs.Done.{HoldsSent}
 use Rattle.host_view.specs.Frames.{packet_of, read_line, line_of}
-use Rattle.host_view.specs.Marks.{shown, shown_entries}
+use Rattle.host_view.specs.Marks.{shown}
 use Rattle.host_view.specs.Seen.{Seen}
 use Rattle.homa_host.specs.Public.{IsHeld}
-use Rattle.host_table.specs.declared.stage.Stage.{Stage}
 use Rattle.host_table.specs.Left.{entries_of, HasLeft}
-use Rattle.host_table.specs.Staged.{frames_of, whole_of}
+use Rattle.host_table.specs.Staged.{hosts_of, frames_of, whole_of}
 use Rattle.homa_world.specs.declared.kinds.LineKind.{LineKind}
+use Rattle.homa_world.specs.declared.kinds.LineKind.TheVariants as line
+use Rattle.homa_world.specs.declared.parts.First.{First}
+use Rattle.homa_world.specs.declared.parts.First.TheVariants as first
+use Rattle.homa_world.specs.declared.parts.Last.{Last}
+use Rattle.homa_world.specs.declared.parts.Last.TheVariants as last
+use Rattle.homa_world.specs.declared.parts.WorldParts.{WorldParts}
 use Rattle.homa_world.specs.Kinds.{kind_of, packet_kind, kind_numbered}
+use Rattle.homa_world.specs.Standing.{first_told, told_by}
+use Rattle.homa_world.specs.Counting.{counted_kinds, kind_before, unmarked_kind, AreMarksOf}
 
 -- ---- by a datagram
 
@@ -87,50 +94,60 @@ module _ (h : Seen) (frames : List SentFrame) where
     by None same is = absurd (true≢false (sym is))
     by (Some f) same is = read f (packet_of h.settings f) same refl is
 
--- ---- by its place
+-- ---- of a host's last step
 
 -- a packet's number has no say in the kind of its line
 kind-numbered : (n : ℕ) (e : PlainEntry) → kind_of (numbered n e) ≡ kind_of e
 kind-numbered n (PlainSend number from to inc role id level what payload) = refl
 kind-numbered n e = refl
 
--- what stands behind a list
-behind : {A : Type 0} (a b : List A) (i j : ℕ) → j ≡ length a + i → slice_get (a ++ b) j ≡ slice_get b i
-behind [] b i j e = ap (slice_get b) (omega (arith, e))
-behind (x ∷ a) b i zero e = absurd (omega (arith, e))
-behind (x ∷ a) b i (suc j) e = behind a b i j (omega (arith, e))
+-- the kinds of a step's entries, with their numbers
+kinds_numbered : (base : ℕ) (entry : Mark → PlainEntry) (marks : List Mark)
+    → map (λ (m : Mark). kind_of (entry m)) marks ≡ map kind_of (map (numbered base) (map entry marks))
+kinds_numbered base entry [] = refl
+kinds_numbered base entry (m ∷ marks) =
+    let rest = map (λ (x : Mark). kind_of (entry x)) marks in
+    ap (λ (k : Option LineKind). k ∷ rest) (sym (kind-numbered base (entry m)))
+    ∙ ap (λ (ks : List (Option LineKind)). kind_of (numbered base (entry m)) ∷ ks) (kinds_numbered base entry marks)
 
--- the kind of the entry of a mark, behind other entries
-pub mark_kind : (h : Seen) (frames : List SentFrame) (whole : List ℕ) (base : ℕ) (before : List PlainEntry) (i j : ℕ) (m : Mark) (k : Option LineKind)
-    → j ≡ length before + i → slice_get h.marks i ≡ Some m → k ≡ kind_of (shown h frames whole m)
-    → option_map kind_of (slice_get (before ++ map (numbered base) (shown_entries h frames whole)) j) ≡ Some k
-mark_kind h frames whole base before i j m k place at is =
-    let entry = shown h frames whole in
-    let es = shown_entries h frames whole in
-    let there : slice_get es i ≡ Some (entry m) = slice_get-map entry h.marks i ∙ ap (option_map entry) at in
-    let numbers = numbered base in
-    let at_place : slice_get (map numbers es) i ≡ Some (numbers (entry m)) = slice_get-map numbers es i ∙ ap (option_map numbers) there in
-    ap (option_map kind_of) (behind before (map numbers es) i j place ∙ at_place) ∙ ap Some (kind-numbered base (entry m) ∙ sym is)
+-- what stands before them is counted too
+counted_before : (host : HostId) (f : First) (bytes : List ℕ) (kinds : List (Option LineKind)) (es : List PlainEntry) → kinds ≡ map kind_of es
+    → counted_kinds (kind_before f ∷ kinds) ≡ counted_kinds (map kind_of (first_told host f bytes ++ es))
+counted_before host first.Nothing bytes kinds es e = ap counted_kinds e
+counted_before host (first.Delivered packet) bytes kinds es e = ap (λ (ks : List (Option LineKind)). line.Deliver ∷ counted_kinds ks) e
+counted_before host first.Injected bytes kinds es e = ap counted_kinds e
 
--- a mark that is read is one of the step's
-pub marked : (h : Seen) (i : ℕ) (m : Mark) → slice_get h.marks i ≡ Some m → Contains h.marks m
-marked h i m at =
-    subst (Contains h.marks) (get_or_from_slice_get h.marks i m m at) (Contains-get_or h.marks i m (slice_get_within h.marks i m at))
+module _ {S : Type 0} (w : WorldParts S) where
+  -- the marks that a host's last step left
+  pub left_marks : (host : HostId) (f : First) (base : ℕ) (o : Option Seen) (marks : List Mark) → slice_get (hosts_of w.stage) host.0 ≡ o → HasLeft w.stage o
+      → IfSome o (λ h. marks ≡ h.marks) → AreMarksOf w (last.Stepped host f base) marks
+  left_marks host f base None marks at left same = absurd left
+  left_marks host f base (Some h) marks at left same =
+      let frames = frames_of w.stage in
+      let entry = shown h frames (whole_of w.stage) in
+      let holds : (m : Mark) → Contains marks m → IsHeld h frames m = λ m there. held h frames m left.0 (subst (λ ms. Contains ms m) same there) in
+      let told = ap (λ ms. map (numbered base) (map entry ms)) same
+      ∙ ap (λ x. map (numbered base) (entries_of w.stage x)) (sym at) in
+      record {
+        kind = λ m. kind_of (entry m);
+        stand = λ m there. (h, holds m there);
+        kinds = λ m k there is. is h (whole_of w.stage) (holds m there);
+        counted = counted_before host f w.injected.items (map (λ (m : Mark). kind_of (entry m)) marks) _
+            (kinds_numbered base entry marks ∙ ap (map kind_of) told);
+      }
 
--- ---- of a host's last step
+  -- other events have none
+  none_marked : {l : Last} → counted_kinds (unmarked_kind l ∷ []) ≡ counted_kinds (map kind_of (told_by w l)) → AreMarksOf w l []
+  none_marked same = record {
+    kind = λ _. None;
+    stand = λ m there. absurd (omega (arith, there.1));
+    kinds = λ m k there is. absurd (omega (arith, there.1));
+    counted = same;
+  }
 
-module _ {S : Type 0} (st : Stage S) where
-  -- a mark that a host's last step left is held
-  pub left_held : (o : Option Seen) (i : ℕ) (m : Mark) → HasLeft st o → IfSome o (λ h. slice_get h.marks i ≡ Some m)
-      → (h : Seen) × IsHeld h (frames_of st) m
-  left_held None i m left at = absurd left
-  left_held (Some h) i m left at = (h, held h (frames_of st) m left.0 (marked h i m at))
-
-  -- the kind of an entry that a host's last step left, behind other entries
-  pub left_kind : (o : Option Seen) (base : ℕ) (before : List PlainEntry) (i j : ℕ) (m : Mark) (k : Option LineKind) → HasLeft st o
-      → IfSome o (λ h. slice_get h.marks i ≡ Some m) → j ≡ length before + i
-      → ((h : Seen) (whole : List ℕ) → IsHeld h (frames_of st) m → k ≡ kind_of (shown h (frames_of st) whole m))
-      → option_map kind_of (slice_get (before ++ map (numbered base) (entries_of st o)) j) ≡ Some k
-  left_kind None base before i j m k left at place is = absurd left
-  left_kind (Some h) base before i j m k left at place is =
-      mark_kind h (frames_of st) (whole_of st) base before i j m k place at (is h (whole_of st) (held h (frames_of st) m left.0 (marked h i m at)))
+  pub no_marks : (l : Last) → ((host : HostId) (f : First) (base : ℕ) → l ≡ last.Stepped host f base → ⊥) → AreMarksOf w l []
+  no_marks last.Nothing not = none_marked refl
+  no_marks last.Ticked not = none_marked refl
+  no_marks (last.Restarted host inc) not = none_marked refl
+  no_marks (last.Shifted host n) not = none_marked refl
+  no_marks (last.Stepped host f base) not = absurd (not host f base refl)

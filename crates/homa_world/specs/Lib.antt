@@ -5,3 +5,4 @@ pub mod Arrived
 pub mod First
 pub mod Passing
 pub mod Kinds
+pub mod Counting

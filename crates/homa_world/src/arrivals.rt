@@ -137,7 +137,7 @@ impl<S: Service> WorldParts<S> {
         ensures same { self.new ≡ record self.old { packets = self.new.packets; injected = self.new.injected; last = last.Nothing } }
         ensures bytes { OnOk result (self.new.injected.items ≡ bytes.now) }
     {
-        self.make_room(alloc)?;
+        self.take_room(alloc)?;
         self.injected.clear();
         self.injected.extend_from_slice(bytes)
     }

@@ -1,9 +1,9 @@
 // What the last event of a world told.
 ghost use Rattle.std.specs.Prelude.{◌≡◌, ◌≤◌, ◌<◌, ℕ, Some, List, length, slice_get};
-ghost use Rattle.std.specs.Option.{option_map};
 ghost use Rattle.homa_plain.specs.Entries.{plain};
 ghost use Rattle.homa_plain.specs.Told.{HasLine};
-ghost use Rattle.homa_world.specs.Kinds.{kind_of};
+ghost use Rattle.host_table.specs.Staged.{frames_of};
+ghost use Rattle.homa_world.specs.Counting.{kind_before, unmarked_kind, Stands, IsKindOf, AreMarksOf};
 ghost use Rattle.homa_world.specs.Standing.{first_told, told_of, IsKept};
 
 use crate::kinds::LineKind;
@@ -11,6 +11,7 @@ use crate::parts::{First, Last, WorldParts};
 use homa_plain::{Entry, HostId};
 use homa_service::Service;
 use host_table::number_on;
+use host_view::Mark;
 
 impl First {
     // How many entries it is.
@@ -26,8 +27,7 @@ impl First {
 
     // The kind of its line, if it is counted.
     fn kind(self) -> Option<LineKind>
-        ensures { (host : HostId) (bytes : List ℕ) → 0 < length (first_told host self bytes)
-            → option_map kind_of (slice_get (first_told host self bytes) 0) ≡ Some result }
+        ensures { result ≡ kind_before self }
     {
         match self {
             First::Delivered(_) => Some(LineKind::Deliver),
@@ -73,24 +73,34 @@ impl<S: Service> WorldParts<S> {
         }
     }
 
-    /// The kind of the line of the last event's entry with this number, if it is counted.
-    pub fn kind(&self, i: usize) -> Option<LineKind>
-        requires kept { IsKept S.served self.now }
-        requires i { i < length (told_of self.now) }
-        ensures { option_map kind_of (slice_get (told_of self.now) i) ≡ Some result }
+    /// The kind of the line of the last event's entry that no mark shows, if it is counted.
+    pub fn unmarked_kind(&self) -> Option<LineKind>
+        ensures { result ≡ unmarked_kind self.now.last }
     {
         match self.last {
-            Last::Nothing => unreachable!(),
             Last::Ticked => Some(LineKind::Clock),
-            Last::Restarted { .. } | Last::Shifted { .. } => None,
-            Last::Stepped { host, first, .. } => {
-                let before = first.entries();
-                if i < before {
-                    return first.kind();
-                }
-                LineKind::of_mark(self.stage.mark(host, i - before), self.stage.outbox())
-            }
+            Last::Stepped { first, .. } => first.kind(),
+            Last::Nothing | Last::Restarted { .. } | Last::Shifted { .. } => None,
         }
+    }
+
+    /// The marks of the last event's entries, if it was a step of a host.
+    pub fn marks(&self) -> &[Mark]
+        requires kept { IsKept S.served self.now }
+        ensures { AreMarksOf self.now self.now.last result.now }
+    {
+        match self.last {
+            Last::Stepped { host, .. } => self.stage.marks(host),
+            _ => &[],
+        }
+    }
+
+    /// The kind of the line of the entry that a mark shows, if it is counted.
+    pub fn mark_kind(&self, mark: &Mark) -> Option<LineKind>
+        requires stands { Stands (frames_of self.now.stage) mark.now }
+        ensures { IsKindOf (frames_of self.now.stage) mark.now result }
+    {
+        LineKind::of_mark(mark, self.stage.outbox())
     }
 
     // The entry that stands before those of a host's step.

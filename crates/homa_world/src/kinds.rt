@@ -2,10 +2,8 @@
 ghost use Rattle.std.specs.Prelude.{◌≡◌, ℕ, Some, List};
 ghost use Rattle.homa_plain.specs.declared.packet.Packet.{Packet};
 ghost use Rattle.homa_plain.specs.Wire.{packet_in};
-ghost use Rattle.host_view.specs.Marks.{shown};
-ghost use Rattle.host_view.specs.Seen.{Seen};
-ghost use Rattle.homa_host.specs.Public.{IsHeld};
-ghost use Rattle.homa_world.specs.Kinds.{kind_of, packet_kind, kind_numbered};
+ghost use Rattle.homa_world.specs.Kinds.{packet_kind, kind_numbered};
+ghost use Rattle.homa_world.specs.Counting.{Stands, IsKindOf};
 
 use homa_plain::{Kind, Why};
 use host_view::{Mark, Outbox};
@@ -48,8 +46,8 @@ impl LineKind {
 
     // The kind of the line of the entry that a host's mark shows, if it is counted. A packet stands in the outbox.
     pub(crate) fn of_mark(mark: &Mark, out: &Outbox) -> Option<LineKind>
-        requires { (h : Seen) × IsHeld h out.now mark.now }
-        ensures { (h : Seen) (whole : List ℕ) → IsHeld h out.now mark.now → result ≡ kind_of (shown h out.now whole mark.now) }
+        requires { Stands out.now mark.now }
+        ensures { IsKindOf out.now mark.now result }
     {
         match mark {
             Mark::Called { .. } => Some(LineKind::Call),

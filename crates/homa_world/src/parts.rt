@@ -98,6 +98,19 @@ impl<S: Service> WorldParts<S> {
         ensures room { HasMadeRoom S.served self.old self.new result }
         ensures same { self.new ≡ record self.old { packets = self.new.packets; last = last.Nothing } }
     {
+        if self.packets.is_ready(self.clock) {
+            self.last = Last::Nothing;
+            return Ok(());
+        }
+        self.take_room(alloc)
+    }
+
+    // The same, without a look at whether there is room already. It stands by itself so that `make_room` stays short.
+    pub(crate) fn take_room(&mut self, alloc: Global) -> Result<(), AllocError>
+        requires { MayHappen S.served self.old }
+        ensures room { HasMadeRoom S.served self.old self.new result }
+        ensures same { self.new ≡ record self.old { packets = self.new.packets; last = last.Nothing } }
+    {
         self.last = Last::Nothing;
         self.packets.reserve(alloc, self.clock)
     }

@@ -49,8 +49,25 @@ impl<S: Service> WorldParts<S> {
         true
     }
 
-    // What is shown of the packet with this number.
+    // What is shown of the packet with this number. Most that are asked for were sent last.
     pub(crate) fn passing(&self, n: u64) -> Option<Passing>
+        ensures { (w : PlainWorld) → StandsFor self.now w → IsOf self.now.settings w n result }
+    {
+        match self.packets.recent(n) {
+            Some(
+                Kept::Whole {
+                    tick,
+                    to,
+                    bytes,
+                    ..
+                },
+            ) => passing_of(tick, to, bytes),
+            _ => self.passing_of_all(n),
+        }
+    }
+
+    // The same, whenever it was sent.
+    fn passing_of_all(&self, n: u64) -> Option<Passing>
         ensures { (w : PlainWorld) → StandsFor self.now w → IsOf self.now.settings w n result }
     {
         match self.packets.get(n) {

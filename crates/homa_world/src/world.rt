@@ -1,7 +1,6 @@
 // The world that is played.
 ghost use Rattle.std.specs.Prelude.{◌≡◌, ◌≤◌, ◌<◌, ◌==◌, Some, MatchOption, length, slice_get};
 ghost use Rattle.std.specs.List.{AllByRecursion, list_all};
-ghost use Rattle.std.specs.Option.{option_map};
 ghost use Rattle.plain_sets.specs.Maps.{len};
 ghost use Rattle.homa_plain.specs.Host.{Host as PlainHost};
 ghost use Rattle.homa_plain.specs.World.{World as PlainWorld, host_at};
@@ -13,6 +12,7 @@ use homa_host::Host;
 use homa_plain::{Entry, Event, HostId, LAST_TICK, Settings, WorldFault};
 use homa_replay::{OpenWorld, ReplayWorld};
 use homa_service::Service;
+use host_view::Mark;
 use std::alloc::{AllocError, Global};
 use std::marker::Model;
 
@@ -39,8 +39,9 @@ impl<S: Service> World<S> {
     ghost use Rattle.host_table.specs.Staged.{MaySeat};
     ghost use Rattle.homa_world.specs.First.{IsOpenedAt};
     ghost use Rattle.box_laws.specs.First.{AreAllowed};
-    ghost use Rattle.homa_world.specs.Kinds.{kind_of};
-    ghost use Rattle.homa_world.specs.Standing.{StandsFor, told_of, may_tell_of};
+    ghost use Rattle.host_table.specs.Staged.{frames_of};
+    ghost use Rattle.homa_world.specs.Counting.{unmarked_kind, Stands, IsKindOf, AreMarksOf};
+    ghost use Rattle.homa_world.specs.Standing.{StandsFor, may_tell_of};
 
     /// A world in which nothing has happened, at tick `start` of its clock: so many hosts as the settings say, each in its first
     /// life. Service h serves host h, and the others are spare.
@@ -99,12 +100,26 @@ impl<S: Service> World<S> {
         self.parts.is_idle()
     }
 
-    /// The kind of the line of the last event's entry with this number, if it is counted.
-    pub fn kind(&self, i: usize) -> Option<LineKind>
-        requires { i < length (told_of self.now) }
-        ensures { option_map kind_of (slice_get (told_of self.now) i) ≡ Some result }
+    /// The kind of the line of the last event's entry that no mark shows, if it is counted.
+    pub fn unmarked_kind(&self) -> Option<LineKind>
+        ensures { result ≡ unmarked_kind self.now.last }
     {
-        self.parts.kind(i)
+        self.parts.unmarked_kind()
+    }
+
+    /// The marks of the last event's entries, if it was a step of a host.
+    pub fn marks(&self) -> &[Mark]
+        ensures { AreMarksOf self.now self.now.last result.now }
+    {
+        self.parts.marks()
+    }
+
+    /// The kind of the line of the entry that a mark shows, if it is counted.
+    pub fn mark_kind(&self, mark: &Mark) -> Option<LineKind>
+        requires stands { Stands (frames_of self.now.stage) mark.now }
+        ensures { IsKindOf (frames_of self.now.stage) mark.now result }
+    {
+        self.parts.mark_kind(mark)
     }
 
     /// What is shown of the packet with this number, counted from 0; None where it was sent at an earlier tick and is too old

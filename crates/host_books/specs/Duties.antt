@@ -1,11 +1,10 @@
 -- What a row has in the books of its host.
-use Rattle.std.specs.Prelude.{◌≡◌, ◌<◌, ◌+◌, ℕ, Option, None, Some, IfSome, List, [], ◌∷◌}
+use Rattle.std.specs.Prelude.{◌≡◌, ◌+◌, ℕ, Option, None, Some, IfSome, List, [], ◌∷◌}
 use Rattle.homa_plain.specs.declared.settings.Settings.{Settings}
 use Rattle.homa_timers.specs.Armed as armed
 use Rattle.homa_grants.specs.Entries as entry
 use Rattle.homa_pacer.specs.Pace as pace
 use Rattle.host_view.specs.Seen.{Seen, AreArmed, AreEntered, AreReady}
-use Rattle.host_view.specs.Follow.{booked}
 use Rattle.host_books.specs.declared.books.Books.{Books}
 use Rattle.host_books.specs.declared.books.Deadline.{Deadline}
 use Rattle.host_books.specs.declared.books.Arrival.{Arrival}

@@ -83,6 +83,58 @@ impl Books {
         })
     }
 
+    /// Gives a slot this timer, or none. The other books stay.
+    pub fn follow_timer(&mut self, slot: u32, timer: Option<Deadline>)
+        requires slot { slot < self.old.timers.slots }
+        requires own { IfSome timer (λ t. armed.IsOwnOrder slot t.order self.old.timers.timers) }
+        ensures { self.new ≡ record self.old {
+          timers = record self.old.timers {
+            timers = booked armed.timer_key (λ t. t.slot) slot (timers_in slot timer) self.old.timers.timers;
+          };
+        } }
+    {
+        match timer {
+            Some(timer) => self.timers.arm(slot, timer.at, timer.order),
+            None => self.timers.disarm(slot),
+        }
+    }
+
+    /// Gives a slot this message that arrives, or none. The other books stay.
+    pub fn follow_arrival(&mut self, slot: u32, arrival: Option<Arrival>)
+        requires slot { slot < self.old.grants.slots }
+        requires peer { IfSome arrival (λ a. a.peer.0 < self.old.grants.hosts) }
+        requires own { IfSome arrival (λ a. entry.IsOwnOrder slot a.order self.old.grants.entries) }
+        ensures { self.new ≡ record self.old {
+          grants = record self.old.grants {
+            entries = booked entry.entry_key (λ e. e.slot) slot (entries_in slot arrival) self.old.grants.entries;
+          };
+        } }
+    {
+        match arrival {
+            Some(arrival) => {
+                self.grants
+                    .enter(slot, arrival.peer, arrival.remaining, arrival.order);
+            }
+            None => self.grants.leave(slot),
+        }
+    }
+
+    /// Gives a slot this message that waits to be sent, or none. The other books stay.
+    pub fn follow_waiting(&mut self, slot: u32, waiting: Option<Waiting>)
+        requires slot { slot < self.old.pacer.slots }
+        requires own { IfSome waiting (λ w. pace.IsOwnOrder slot w.order self.old.pacer.ready) }
+        ensures { self.new ≡ record self.old {
+          pacer = record self.old.pacer {
+            ready = booked pace.ready_key (λ r. r.slot) slot (ready_in slot waiting) self.old.pacer.ready;
+          };
+        } }
+    {
+        match waiting {
+            Some(waiting) => self.pacer.ready(slot, waiting.left, waiting.order),
+            None => self.pacer.idle(slot),
+        }
+    }
+
     /// Gives a slot these entries, and no others.
     pub fn follow(&mut self, slot: u32, duties: Duties)
         requires timers { slot < self.old.timers.slots }
@@ -100,20 +152,8 @@ impl Books {
           ready = booked pace.ready_key (λ r. r.slot) slot (ready_in slot duties.waiting) self.old.pacer.ready;
         } }
     {
-        match duties.timer {
-            Some(timer) => self.timers.arm(slot, timer.at, timer.order),
-            None => self.timers.disarm(slot),
-        }
-        match duties.arrival {
-            Some(arrival) => {
-                self.grants
-                    .enter(slot, arrival.peer, arrival.remaining, arrival.order);
-            }
-            None => self.grants.leave(slot),
-        }
-        match duties.waiting {
-            Some(waiting) => self.pacer.ready(slot, waiting.left, waiting.order),
-            None => self.pacer.idle(slot),
-        }
+        self.follow_timer(slot, duties.timer);
+        self.follow_arrival(slot, duties.arrival);
+        self.follow_waiting(slot, duties.waiting);
     }
 }

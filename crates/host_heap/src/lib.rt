@@ -1,16 +1,16 @@
 //! One heap of a host's rows, as its timers, its pacer and its grants have it: a call says what holds of a slot, whether
 //! or not the heap has it.
 //!
-//! The model is that of [`PlaceHeap`]: the list of its slots with their keys, in order. The main promise: `replace`
-//! gives a slot its new key, or takes it out, and leaves every other slot as it was; the other calls only look. Each
-//! call counts its steps in a ledger of its own, which nobody reads, and takes no memory. The lemmas of a list of
-//! things of one's own, each of which stands for an item of a heap, are in `proofs/Books`.
+//! The model is that of [`PlaceHeap`]: the list of its slots with their keys, in order. The main promise: `put`
+//! gives a slot its key, `take_out` takes it out, and every other slot stays as it was; `replace` is one of the two,
+//! and the other calls only look. Each call counts its steps in a ledger of its own, which nobody reads, and takes no
+//! memory. The lemmas of a list of things of one's own, each of which stands for an item of a heap, are in
+//! `proofs/Books`.
 #![tactic(auto)]
 
 ghost use Rattle.std.specs.Prelude.{◌≡◌, ◌<◌, ◌≤◌, length, take};
-ghost use Rattle.place_heap.specs.Order.{first_of, key_in};
+ghost use Rattle.place_heap.specs.Order.{first_of, key_in, placed, replaced, without};
 ghost use Rattle.place_heap.specs.Held.{list_of};
-ghost use Rattle.host_heap.specs.Replaced.{replaced};
 
 use arrayvec::ArrayVec;
 use place_heap::{Item, Key, PlaceHeap, Steps};
@@ -23,25 +23,50 @@ pub fn replace(heap: &mut PlaceHeap, slot: u32, key: Option<Key>)
     ensures list { list_of heap.new ≡ replaced slot key (list_of heap.old) }
     ensures cap { length heap.new.cells ≡ length heap.old.cells }
 {
-    replace_counted::<Brand>(heap, slot, key, Blank::new(1));
+    match key {
+        Some(key) => put(heap, slot, key),
+        None => take_out(heap, slot),
+    }
 }
 
-// Replaces, and counts its steps in this ledger.
-#[tactic(auto, using(crate::proofs::Absent::without_absent))]
-fn replace_counted<L: Ledger>(heap: &mut PlaceHeap, slot: u32, key: Option<Key>, blank: Blank)
+/// Gives a slot this key, whether or not the heap holds it.
+pub fn put(heap: &mut PlaceHeap, slot: u32, key: Key)
+    requires { slot < length heap.old.cells }
+    ensures list { list_of heap.new ≡ placed (slot, key) (without slot (list_of heap.old)) }
+    ensures cap { length heap.new.cells ≡ length heap.old.cells }
+{
+    put_counted::<Brand>(heap, slot, key, Blank::new(1));
+}
+
+// Gives the slot its key, and counts its steps in this ledger.
+fn put_counted<L: Ledger>(heap: &mut PlaceHeap, slot: u32, key: Key, blank: Blank)
     requires blank { (blank.name ≡ L.name) × (blank.parts ≡ L.parts) × (0 < L.parts) }
     requires slot { slot < length heap.old.cells }
-    ensures list { list_of heap.new ≡ replaced slot key (list_of heap.old) }
+    ensures list { list_of heap.new ≡ placed (slot, key) (without slot (list_of heap.old)) }
     ensures cap { length heap.new.cells ≡ length heap.old.cells }
 {
     let mut steps = Steps::<L>::new(blank);
-    let present = heap.has(slot, &mut steps);
-    match key {
-        Some(key) if present => heap.update(slot, key, &mut steps),
-        Some(key) => heap.insert(slot, key, &mut steps),
-        None if present => heap.remove(slot, &mut steps),
-        None => {}
-    }
+    heap.put(slot, key, &mut steps);
+}
+
+/// Takes a slot out, if the heap holds it.
+pub fn take_out(heap: &mut PlaceHeap, slot: u32)
+    requires { slot < length heap.old.cells }
+    ensures list { list_of heap.new ≡ without slot (list_of heap.old) }
+    ensures cap { length heap.new.cells ≡ length heap.old.cells }
+{
+    take_out_counted::<Brand>(heap, slot, Blank::new(1));
+}
+
+// Takes the slot out, and counts its steps in this ledger.
+fn take_out_counted<L: Ledger>(heap: &mut PlaceHeap, slot: u32, blank: Blank)
+    requires blank { (blank.name ≡ L.name) × (blank.parts ≡ L.parts) × (0 < L.parts) }
+    requires slot { slot < length heap.old.cells }
+    ensures list { list_of heap.new ≡ without slot (list_of heap.old) }
+    ensures cap { length heap.new.cells ≡ length heap.old.cells }
+{
+    let mut steps = Steps::<L>::new(blank);
+    heap.take_out(slot, &mut steps);
 }
 
 /// The slot that stands before all others, with its key, if the heap holds any.
@@ -76,21 +101,19 @@ fn key_counted<L: Ledger>(heap: &PlaceHeap, slot: u32, blank: Blank) -> Option<K
     heap.key(slot, &mut Steps::<L>::new(blank))
 }
 
-/// The first `k` slots with their keys, at most 8, or all where there are fewer.
-pub fn first_k(heap: &PlaceHeap, k: u32) -> ArrayVec<Item, 8>
+/// Makes `out` the first `k` slots with their keys, at most 8, or all where there are fewer.
+pub fn first_k(heap: &PlaceHeap, k: u32, out: &mut ArrayVec<Item, 8>)
     requires { k ≤ 8 }
-    ensures { result.items ≡ take k (list_of heap.now) }
+    ensures { out.new.items ≡ take k (list_of heap.now) }
 {
-    first_k_counted::<Brand>(heap, k, Blank::new(1))
+    first_k_counted::<Brand>(heap, k, out, Blank::new(1));
 }
 
 // Looks for the first `k` slots, and counts its steps in this ledger.
-fn first_k_counted<L: Ledger>(heap: &PlaceHeap, k: u32, blank: Blank) -> ArrayVec<Item, 8>
+fn first_k_counted<L: Ledger>(heap: &PlaceHeap, k: u32, out: &mut ArrayVec<Item, 8>, blank: Blank)
     requires blank { (blank.name ≡ L.name) × (blank.parts ≡ L.parts) × (0 < L.parts) }
     requires k { k ≤ 8 }
-    ensures { result.items ≡ take k (list_of heap.now) }
+    ensures { out.new.items ≡ take k (list_of heap.now) }
 {
-    let mut out = ArrayVec::new();
-    heap.first_k(k, &mut out, &mut Steps::<L>::new(blank));
-    out
+    heap.first_k(k, out, &mut Steps::<L>::new(blank));
 }

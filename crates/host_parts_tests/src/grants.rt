@@ -39,7 +39,9 @@ fn item(place: u32, first: u64, second: u64) -> Item {
 
 // The items of a heap, in order.
 fn holds(rt: &impl Abort, heap: &PlaceHeap, wanted: &[Item]) {
-    assert!(rt; first_k(heap, 8).as_slice() == wanted, "{wanted:?}");
+    let mut items = ArrayVec::new();
+    first_k(heap, 8, &mut items);
+    assert!(rt; items.as_slice() == wanted, "{wanted:?}");
 }
 
 #[test]

@@ -1,4 +1,5 @@
 //! A heap of four slots, with values worked out by hand.
+use arrayvec::ArrayVec;
 use host_heap::*;
 use place_heap::{Key, PlaceHeap};
 use std::test::Fail;
@@ -18,9 +19,8 @@ fn each_call(rt: HostRuntime) -> Result<(), Fail> {
     assert_eq!(rt; first(&heap), Some((2, by(4, 2))));
     assert_eq!(rt; key(&heap, 3), Some(by(5, 1)));
     assert_eq!(rt; key(&heap, 0), None);
-    assert_eq!(rt;
-        first_k(&heap, 2).as_slice(),
-        &[(2, by(4, 2)), (1, by(5, 0))][..]
-    );
+    let mut items = ArrayVec::new();
+    first_k(&heap, 2, &mut items);
+    assert_eq!(rt; items.as_slice(), &[(2, by(4, 2)), (1, by(5, 0))][..]);
     Ok(())
 }

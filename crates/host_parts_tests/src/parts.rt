@@ -31,10 +31,29 @@ fn open_others(rt: &impl Abort, short: &Incoming, pool: &mut MsgPool, scratch: &
     ensures { IsIn pool.new short.now }
 {
     assert_eq!(rt; pool.free(), 2);
-    let full = open_part(PEER, first_piece(8193, b"x"), 1, 10, pool, scratch);
-    assert!(rt; matches!(&full, Opening::Full { need: 3, free: 2 }));
-    let whole = open_part(PEER, first_piece(3, b"xyz"), 1, 10, pool, scratch);
-    assert!(rt; matches!(&whole, Opening::Whole));
+    let mut part = None;
+    let full = open_part(
+        &mut part,
+        PEER,
+        first_piece(8193, b"x"),
+        1,
+        10,
+        pool,
+        scratch,
+    );
+    assert_eq!(rt; full, Opening::Full { need: 3, free: 2 });
+    assert!(rt; part.is_none());
+    let whole = open_part(
+        &mut part,
+        PEER,
+        first_piece(3, b"xyz"),
+        1,
+        10,
+        pool,
+        scratch,
+    );
+    assert_eq!(rt; whole, Opening::Whole);
+    assert!(rt; part.is_none());
     assert!(rt; scratch.bytes() == b"xyz".as_slice());
     assert_eq!(rt; pool.free(), 2);
 }
@@ -59,8 +78,11 @@ fn two_messages_in_three_pages(rt: HostRuntime) -> Result<(), Fail> {
     let mut pool = MsgPool::new(rt.alloc(), 3)?;
     // One page; "cdef" are missing.
     let piece = first_piece(6, b"ab");
-    let Opening::Begun(short) = open_part(PEER, piece, 0, 10, &mut pool, &mut scratch) else {
-        assert!(rt; false, "the first message wasn't opened");
+    let mut part = None;
+    let begun = open_part(&mut part, PEER, piece, 0, 10, &mut pool, &mut scratch);
+    assert_eq!(rt; begun, Opening::Begun);
+    let Some(short) = part else {
+        assert!(rt; false, "the first message has no part");
         return Ok(());
     };
     open_others(&rt, &short, &mut pool, &mut scratch);

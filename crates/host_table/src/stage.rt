@@ -211,13 +211,12 @@ impl<S: Service> Stage<S> {
         self.hosts[host.0 as usize].entries()
     }
 
-    /// The mark of the entry of a host's last step with this number, counted from 0.
-    pub fn mark(&self, host: HostId, i: usize) -> &Mark
-        requires host { host.0 < length (hosts_of self.now) }
-        requires i { i < length (entries_of self.now (slice_get (hosts_of self.now) host.0)) }
-        ensures { IfSome (slice_get (hosts_of self.now) host.0) (λ h. slice_get h.marks i ≡ Some result.now) }
+    /// The marks of the entries of a host's last step, in order.
+    pub fn marks(&self, host: HostId) -> &[Mark]
+        requires { host.0 < length (hosts_of self.now) }
+        ensures { IfSome (slice_get (hosts_of self.now) host.0) (λ h. result.now ≡ h.marks) }
     {
-        self.hosts[host.0 as usize].mark(i)
+        self.hosts[host.0 as usize].marks()
     }
 
     /// The entry of a host's last step with this number, counted from 0.

@@ -1,11 +1,13 @@
 -- What a pool that is kept says of one lease and its chain.
-use Rattle.std.proofs.Common.{◌≡◌, ◌≢◌, ℕ, suc, ◌+◌, ◌*◌, ◌<◌, List, [], length, refl, sym, ap, subst, ◌∙◌, arith, Option, Some, None}
+use Rattle.std.proofs.Common.{◌≡◌, ◌≢◌, ℕ, suc, ◌+◌, ◌*◌, ◌<◌, ◌≤◌, List, [], length, refl, sym, ap, subst, ◌∙◌, arith, Option, Some, None, true}
+use Rattle.std.proofs.Common.{false, inl, inr}
+use Rattle.std.proofs.lemmas.Bool.{cases_lt, true≢false}
 use Rattle.std.specs.Option.{option_map, option_map_or, IsSomeAnd, unwrap_or}
 use Rattle.slab.specs.Slab.{Slab, HasRoomFor, get as slot}
 use Rattle.plain_sets.specs.Maps.{get}
 use Rattle.msg_pool.specs.declared.pages.Chain.{Chain}
 use Rattle.msg_pool.specs.Pages.{pages_for, page_at, IsChain, HasNoRepeat}
-use Rattle.msg_pool.specs.Pool.{Pool, Held, bytes_of, IsLeaseOf}
+use Rattle.msg_pool.specs.Pool.{Pool, Held, free_pages, bytes_of, IsLeaseOf}
 use Rattle.msg_pool.specs.Chains.{leases_of, chain_at, AreKept}
 use Rattle.msg_pool.proofs.ChainLaws.{one_place}
 use Rattle.msg_pool.proofs.BytesLaws.{length-chain_bytes}
@@ -121,3 +123,15 @@ module _ (block next : List ℕ) (head free : ℕ) (chains : Slab Chain) (kept :
       let total = kept.total in
       let room = kept.room in
       omega arith
+
+  -- where the leases of the pool that is seen leave enough pages, as many are free
+  pub enough_free : (pool : Pool) (bytes need : ℕ) → record { pages = length next; leases = leases_of block next chains } ≡ pool → need ≡ pages_for bytes
+      → (free_pages pool < pages_for bytes → false ≡ true) → need ≤ free
+  enough_free pool bytes need is_pool is_need not_few =
+      let total = kept.total in
+      let left : free_pages (record { pages = length next; leases = leases_of block next chains }) ≡ free = omega arith in
+      let seen : free_pages pool ≡ free = ap free_pages (sym is_pool) ∙ left in
+      elim (cases_lt free need) [
+        | inl few ↦ absurd (true≢false (sym (not_few (omega arith))))
+        | inr enough ↦ enough
+      ]

@@ -112,6 +112,22 @@ impl MsgPool {
         })
     }
 
+    /// Whether `len` bytes can be leased; if not, how many pages they need, and how many are free.
+    pub fn check_room(&self, len: u32) -> Result<(), PoolFull>
+        ensures full { IsErr result ↔ (free_pages self.now < pages_for len) }
+        ensures need { IfErr result (λ full. full.need ≡ pages_for len) }
+        ensures free { IfErr result (λ full. full.free ≡ free_pages self.now) }
+    {
+        let need = len.div_ceil(PAGE);
+        if self.free < need {
+            return Err(PoolFull {
+                need,
+                free: self.free,
+            });
+        }
+        Ok(())
+    }
+
     /// Leases `len` bytes, all zero, or says how many pages they need where fewer are free.
     pub fn take(&mut self, len: u32) -> Result<Lease, PoolFull>
         requires some { 0 < len }
@@ -125,13 +141,8 @@ impl MsgPool {
         ensures same { OnErr result (self.new ≡ self.old) }
         ensures within { leased_pages self.new.leases ≤ self.new.pages }
     {
+        self.check_room(len)?;
         let need = len.div_ceil(PAGE);
-        if self.free < need {
-            return Err(PoolFull {
-                need,
-                free: self.free,
-            });
-        }
         let first = self.head;
         self.head = zero_chain(&mut self.block, &self.next, first, need);
         self.free -= need;

@@ -9,7 +9,7 @@ use Rattle.place_heap.specs.declared.cells.Cell.{Cell}
 use Rattle.place_heap.specs.declared.key.Key.{Key}
 use Rattle.place_heap.specs.Cells.{unused_cell}
 use Rattle.place_heap.specs.Order.{Item, is_before, placed, ordered, without, key_in, first_of}
-use Rattle.place_heap.specs.Held.{items_of, places_of, at, IsHeap, IsIndexed, IsKept}
+use Rattle.place_heap.specs.Held.{items_of, places_of, at, IsHeap, IsIndexed, AreKept}
 use Rattle.place_heap.specs.Sifted.{parent, InOrder, CanSiftUp, IsSifted, MayMove}
 use Rattle.place_heap.proofs.Before.{either, test_same, test_other, order, is_after}
 use Rattle.place_heap.proofs.Room.{no_more}
@@ -30,7 +30,7 @@ is_heap items places len ix heap i pos inside =
     (λ e. absurd (omega (arith, ix.stands i inside, ix.stands (parent i) (omega arith), ap (slice_index places) e))) (heap i pos inside)
 
 -- what was moved is a heap again
-pub kept_again : (old new : List Cell) (len : ℕ) → length old ≤ 8192 → len ≤ length old → IsSifted old new len → IsKept (record { cells = new; len = len })
+pub kept_again : (old new : List Cell) (len : ℕ) → length old ≤ 8192 → len ≤ length old → IsSifted old new len → AreKept new len
 kept_again old new len small within done = record {
   small = omega (arith, done.same_len);
   within = omega (arith, done.same_len);
@@ -115,7 +115,7 @@ module _ (items : List Item) (places : List ℕ) (len : ℕ) (fits : len ≤ len
       omega arith
 
 -- an absent slot is put behind the heap
-module _ (cells mid : List Cell) (len : ℕ) (x : Item) (kept : IsKept (record { cells = cells; len = len })) (inside : x.0 < length cells)
+module _ (cells mid : List Cell) (len : ℕ) (x : Item) (kept : AreKept cells len) (inside : x.0 < length cells)
     (none : slice_index (places_of cells) x.0 ≡ length (places_of cells))
     (items : items_of mid ≡ set (items_of cells) len x) (places : places_of mid ≡ set (places_of cells) x.0 len) (count : length mid ≡ length cells) where
   -- there is a cell for it
@@ -175,7 +175,7 @@ module _ (cells mid : List Cell) (len : ℕ) (x : Item) (kept : IsKept (record {
       ∙ ap (λ l. placed x (ordered l)) (ap (take len) items ∙ take-set-le len (items_of cells) len x (omega arith))
 
 -- the key of a present slot is changed
-module _ (cells mid : List Cell) (len : ℕ) (x : Item) (kept : IsKept (record { cells = cells; len = len })) (inside : x.0 < length (places_of cells))
+module _ (cells mid : List Cell) (len : ℕ) (x : Item) (kept : AreKept cells len) (inside : x.0 < length (places_of cells))
     (here : slice_index (places_of cells) x.0 < len)
     (items : items_of mid ≡ set (items_of cells) (slice_index (places_of cells) x.0) x) (places : places_of mid ≡ places_of cells)
     (count : length mid ≡ length cells) where
@@ -233,7 +233,7 @@ module _ (cells mid : List Cell) (len : ℕ) (x : Item) (kept : IsKept (record {
       ap (λ l. ordered l) (ap (take len) items ∙ take_set len (items_of cells) p x) ∙ rest.changed x ∙ ap (placed x) (sym gone)
 
 -- the place of a slot goes, and the last item goes to where it stood
-module _ (cells mid : List Cell) (last slot p : ℕ) (item : Item) (kept : IsKept (record { cells = cells; len = last + 1 }))
+module _ (cells mid : List Cell) (last slot p : ℕ) (item : Item) (kept : AreKept cells (last + 1))
     (inside : slot < length (places_of cells)) (here : slice_index (places_of cells) slot ≡ p) (less : p < last)
     (lies : at (items_of cells) last ≡ item)
     (items : items_of mid ≡ set (items_of cells) p item) (places : places_of mid ≡ set (set (places_of cells) slot (length cells)) item.0 p)
@@ -324,11 +324,11 @@ module _ (cells mid : List Cell) (last slot p : ℕ) (item : Item) (kept : IsKep
       ap ordered (ap (take last) items ∙ take_set last (items_of cells) p item) ∙ rest.changed item ∙ sym (ap (without slot) whole ∙ gone)
 
 -- the place of the last item goes
-module _ (cells new : List Cell) (last slot : ℕ) (kept : IsKept (record { cells = cells; len = last + 1 })) (inside : slot < length (places_of cells))
+module _ (cells new : List Cell) (last slot : ℕ) (kept : AreKept cells (last + 1)) (inside : slot < length (places_of cells))
     (here : slice_index (places_of cells) slot ≡ last)
     (items : items_of new ≡ items_of cells) (places : places_of new ≡ set (places_of cells) slot (length cells)) (count : length new ≡ length cells) where
   -- what is left is a heap
-  pub last_goes : IsKept (record { cells = new; len = last })
+  pub last_goes : AreKept new last
   last_goes =
       let f = at (items_of cells) in
       let same_count : length (places_of new) ≡ length (places_of cells) = ap length places ∙ length-set (places_of cells) slot (length cells) in
@@ -393,7 +393,7 @@ places-new cap slot inside =
     place_in (replicate cap (unused_cell cap)) slot ∙ ap (λ (c : Cell). c.at) (get_or-replicate cap slot (unused_cell cap) (unused_cell 0) inside)
 
 -- new cells are an empty heap
-pub new_kept : (cap : ℕ) → cap ≤ 8192 → IsKept (record { cells = replicate cap (unused_cell cap); len = 0 })
+pub new_kept : (cap : ℕ) → cap ≤ 8192 → AreKept (replicate cap (unused_cell cap)) 0
 new_kept cap small =
     let cells = replicate cap (unused_cell cap) in let count : length cells ≡ cap = length-replicate cap (unused_cell cap) in
     let long : length (places_of cells) ≡ cap = places_len cells ∙ count in record {

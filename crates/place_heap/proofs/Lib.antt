@@ -14,3 +14,5 @@ pub mod Kept
 pub mod Lists
 pub mod Fronts
 pub mod Words
+pub mod Absent
+pub mod Laid

@@ -1,13 +1,19 @@
 -- The cells that a block shows, of which some were written.
-use Rattle.std.proofs.Common.{◌≡◌, ◌≢◌, ℕ, ◌+◌, ◌<◌, ◌≤◌, List, length, map, set, get_or, replicate}
+use Rattle.std.proofs.Common.{◌≡◌, ◌≢◌, ℕ, ◌<◌, ◌≤◌, List, ◌∷◌, length, set, get_or, replicate}
 use Rattle.std.proofs.Common.{Option, Some, None, refl, sym, ap, ◌∙◌, arith, length-set, ⊎_elim, slice_index, subst}
-use Rattle.std.specs.List.{range_with_len}
 use Rattle.std.proofs.lemmas.Bool.{cases_eq}
 use Rattle.std.proofs.lemmas.List.{get_or-set_same, get_or-set_other, get_or-replicate, length-replicate}
 use Rattle.std.proofs.lemmas.List.FromFn.{length-map-range_with_len, get_or-map-range_with_len, fill_by_all}
-use denote.RawPtr.{Ptr}
 use Rattle.place_heap.specs.declared.cells.Cell.{Cell}
 use Rattle.place_heap.specs.Cells.{cell_at, noted_place, shown, unused_cell, values_of, IsMarked, IsWritten}
+
+-- of equal lists the first things are the same
+pub head_of : {A : Type 0} {x y : A} {xs ys : List A} → x ∷ xs ≡ y ∷ ys → x ≡ y
+head_of e = cc e
+
+-- and the rest
+pub tail_of : {A : Type 0} {x y : A} {xs ys : List A} → x ∷ xs ≡ y ∷ ys → xs ≡ ys
+tail_of e = cc e
 
 -- what the place i shows
 abbrev at_place : ℕ → List ℕ → List (Option Cell) → ℕ → Cell
@@ -40,7 +46,7 @@ none_by : (mark : ℕ) (place : Option Cell) → IsMarked mark place → mark �
 none_by mark (Some cell) marked isnt = absurd (isnt marked)
 none_by mark None marked isnt = refl
 
-module _ {at base : Ptr} {marks : List ℕ} {places : List (Option Cell)} {cap : ℕ} (kept : IsWritten at base marks places cap) (i : ℕ) (inside : i < cap) where
+module _ {marks : List ℕ} {places : List (Option Cell)} {cap : ℕ} (kept : IsWritten marks places cap) (i : ℕ) (inside : i < cap) where
   -- a place that was written holds its cell
   pub place_holds : slice_index marks i ≡ 255 → get_or places i None ≡ Some (cell_at (values_of marks places cap) i)
   place_holds is = held_by cap (slice_index marks i) (get_or places i None) (kept.marked i inside) is ∙ ap Some (sym (value_at marks places cap i inside))
@@ -63,9 +69,8 @@ module _ {at base : Ptr} {marks : List ℕ} {places : List (Option Cell)} {cap :
     mark_other k ne = ap (λ ms. slice_index ms k) is_mark ∙ get_or-set_other marks i k mark 0 ne
 
     -- the marks and the places stay in step
-    pub changed_written : IsWritten at base marks' places' cap
+    pub changed_written : IsWritten marks' places' cap
     changed_written = record {
-      lies = kept.lies;
       len = same ∙ kept.len;
       small = kept.small;
       many = ap length is_mark ∙ length-set marks i mark ∙ kept.many;
@@ -87,7 +92,7 @@ module _ {at base : Ptr} {marks : List ℕ} {places : List (Option Cell)} {cap :
         ∙ (value_at marks places cap k below ∙ (λ j. shown cap (sym (mark_other k ne) j) (sym (is_place k ne) j)))) (cases_eq k i)))
 
   -- a cell is written
-  pub put_written : (cell : Cell) → IsWritten at base (set marks i 255) (set places i (Some cell)) cap
+  pub put_written : (cell : Cell) → IsWritten (set marks i 255) (set places i (Some cell)) cap
   put_written cell =
       changed_written 255 (Some cell) (set marks i 255) (set places i (Some cell)) refl (λ k ne. get_or-set_other places i k (Some cell) None ne)
       (get_or-set_same places i (Some cell) None (omega (arith, kept.len))) (length-set places i (Some cell)) refl
@@ -99,7 +104,7 @@ module _ {at base : Ptr} {marks : List ℕ} {places : List (Option Cell)} {cap :
       (get_or-set_same places i (Some cell) None (omega (arith, kept.len))) (length-set places i (Some cell)) refl
 
   -- the mark of a place that wasn't written is another
-  pub noted_written : slice_index marks i ≢ 255 → (mark : ℕ) → mark < 255 → IsWritten at base (set marks i mark) places cap
+  pub noted_written : slice_index marks i ≢ 255 → (mark : ℕ) → mark < 255 → IsWritten (set marks i mark) places cap
   noted_written isnt mark small =
       changed_written mark None (set marks i mark) places refl (λ k ne. refl)
       (none_by (slice_index marks i) (get_or places i None) (kept.marked i inside) isnt) refl small
@@ -111,7 +116,7 @@ module _ {at base : Ptr} {marks : List ℕ} {places : List (Option Cell)} {cap :
       changed_values mark None (set marks i mark) places refl (λ k ne. refl)
       (none_by (slice_index marks i) (get_or places i None) (kept.marked i inside) isnt) refl small
 
-module _ (at base : Ptr) (cap : ℕ) (small : cap ≤ 8192) where
+module _ (cap : ℕ) (small : cap ≤ 8192) where
   -- the marks of places that weren't written
   new_mark : (k : ℕ) → k < cap → slice_index (replicate cap 254) k ≡ 254
   new_mark k below = get_or-replicate cap k 254 0 below
@@ -121,9 +126,8 @@ module _ (at base : Ptr) (cap : ℕ) (small : cap ≤ 8192) where
   new_place k below = get_or-replicate cap k None None below
 
   -- a new block has a mark for each place
-  pub new_written : at ≡ base → IsWritten at base (replicate cap 254) (replicate cap None) cap
-  new_written lies = record {
-    lies = lies;
+  pub new_written : IsWritten (replicate cap 254) (replicate cap None) cap
+  new_written = record {
     len = length-replicate cap None;
     small = small;
     many = length-replicate cap 254;

@@ -31,6 +31,11 @@ abbrev pub without : ℕ → List Item → List Item
 without slot [] = []
 without slot (x ∷ xs) = if x.0 == slot then without slot xs else x ∷ without slot xs
 
+-- items in order, of which a slot has this key, or none
+abbrev pub replaced : ℕ → Option Key → List Item → List Item
+replaced slot None items = without slot items
+replaced slot (Some key) items = placed (slot, key) (without slot items)
+
 -- the key of a slot, if there is an item of it
 abbrev pub key_in : ℕ → List Item → Option Key
 key_in slot [] = None

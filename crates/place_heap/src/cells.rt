@@ -1,9 +1,30 @@
 //! A block of cells in raw memory, which are first written when they are put.
-ghost use Rattle.std.specs.Prelude.{◌≡◌, ◌≢◌, ◌+◌, ◌<◌, ◌≤◌, List, Option, Some, None, length, replicate, slice_index_or, slice_set, IfOk};
-ghost use denote.RawPtr.{Ptr};
+ghost use Rattle.std.specs.Prelude.{
+  ◌≡◌,
+  ◌≢◌,
+  ℕ,
+  ◌+◌,
+  ◌<◌,
+  ◌≤◌,
+  List,
+  [],
+  ◌∷◌,
+  Option,
+  Some,
+  None,
+  length,
+  replicate,
+  slice_index_or,
+  slice_set,
+  IfOk,
+  OnOk,
+  OnErr,
+  false,
+};
 ghost use Rattle.place_heap.specs.declared.cells.Cell.{Cell};
-ghost use Rattle.place_heap.specs.Ownership.{block_owns, block_lends};
-ghost use Rattle.place_heap.specs.Cells.{cell_at, noted_place, unused_cell};
+ghost use Rattle.place_heap.specs.Ownership.{block_owns, block_lends, pile_owns};
+ghost use Rattle.place_heap.specs.declared.cells.Base.{Base};
+ghost use Rattle.place_heap.specs.Cells.{cell_at, noted_place, unused_cell, blanks, after, IsNear, IsWhole};
 
 use crate::key::Key;
 use crate::steps::Steps;
@@ -20,69 +41,120 @@ pub struct Cell {
     pub at: u32,
 }
 
-/// Where a block begins. A copy of it owns nothing.
+/// Where the cells of a heap lie: the first is the cell `first` of a block, and each other lies `stride` cells behind the
+/// one before. A copy of it owns nothing.
 #[derive(Clone, Copy)]
-struct Base {
+pub(crate) struct Base {
     ptr: *mut Cell,
+    first: usize,
+    stride: usize,
 }
 
-/// The owner of a block and of the right to free it. It takes no bytes.
-struct Block {
-    ghost at: { Ptr },
+impl Base {
+    /// The base of another heap in the same block.
+    fn of_heap(self, first: usize) -> Base
+        ensures { result ≡ record self { first = first } }
+    {
+        Base { first, ..self }
+    }
+}
+
+/// The owner of the cells of one heap. It takes no bytes.
+#[derive(Drop)]
+pub(crate) struct Block {
+    ghost base: { Base },
     ghost slots: { List (Option Cell) },
 }
 
 impl Model for Block {
-    ghost also_owns = { λ b. block_owns b.at b.slots };
+    ghost also_owns = { λ b. block_owns b.base b.slots };
 
-    ghost also_shares = { λ b _ κ. block_lends b.at b.slots κ };
+    ghost also_shares = { λ b _ κ. block_lends b.base b.slots κ };
 }
 
-/// Takes room for `len` cells.
-fn allocate(alloc: &Global, len: usize) -> Result<(Base, Block), AllocError>
-    requires { len ≤ 8192 }
-    ensures { IfOk result (λ r. (r.1.at ≡ r.0.ptr) × (r.1.slots ≡ replicate len None)) }
+/// The owner of what is left of a block of `stride` heaps of `len` cells, from the heap `first` on, and of the right to free
+/// it. It takes no bytes.
+#[derive(Drop)]
+pub(crate) struct Pile {
+    ghost base: { Base },
+    ghost len: { ℕ },
+    ghost strips: { List (List (Option Cell)) },
+}
+
+impl Model for Pile {
+    ghost also_owns = { λ p. pile_owns p.base p.len p.strips };
+}
+
+/// Takes room for `many` heaps of `len` cells.
+pub(crate) fn allocate(alloc: &Global, many: usize, len: usize) -> Result<(Base, Pile), AllocError>
+    requires { (many ≤ 32) × (len ≤ 8192) }
+    ensures { IfOk result (λ r. (r.0.first ≡ 0) × (r.0.stride ≡ many) ×
+        (r.1 ≡ record { base = r.0; len = len; strips = replicate many (blanks len) })) }
 {
-    match alloc.allocate(len * size_of::<Cell>(), align_of::<Cell>()) {
+    match alloc.allocate(len * many * size_of::<Cell>(), align_of::<Cell>()) {
         Ok(block) => {
             let base = Base {
                 ptr: block as *mut Cell,
+                first: 0,
+                stride: many,
             };
-            Ok((base, Block {}))
+            Ok((base, Pile {}))
         }
         Err(error) => Err(error),
     }
 }
 
 /// Gives a block back to the allocator.
-fn free(alloc: &Global, base: Base, len: usize, block: Block)
-    requires { (block.at ≡ base.ptr) × (length block.slots ≡ len) × (len ≤ 8192) }
+pub(crate) fn free(alloc: &Global, base: Base, many: usize, len: usize, pile: Pile)
+    requires { (pile.base ≡ base) × (base.first ≡ 0) × (base.stride ≡ many) × (pile.len ≡ len) ×
+        IsWhole many len pile.strips × (many ≤ 32) × (len ≤ 8192) }
 {
-    let Block {} = block;
+    let Pile {} = pile;
     unsafe {
         alloc.deallocate(
             base.ptr as *mut u8,
-            len * size_of::<Cell>(),
+            len * many * size_of::<Cell>(),
             align_of::<Cell>(),
         );
+    }
+}
+
+impl Pile {
+    /// Takes the cells of the first heap out.
+    fn split(&mut self) -> Block
+        requires { self.old.strips ≢ [] }
+        ensures { (result.base ≡ self.old.base) × (self.old.strips ≡ result.slots ∷ self.new.strips) ×
+            (self.new ≡ record self.old { base = after self.old.base; strips = self.new.strips }) }
+    {
+        Block {}
+    }
+
+    /// Puts the cells of a heap back before the others.
+    pub(crate) fn join(&mut self, block: Block)
+        requires { after block.base ≡ self.old.base }
+        ensures { self.new ≡ record self.old { base = block.base; strips = block.slots ∷ self.old.strips } }
+    {
+        let Block {} = block;
     }
 }
 
 impl Block {
     /// Puts a value into a cell, whatever was there.
     fn write(&mut self, base: Base, index: usize, cell: Cell)
-        requires { (base.ptr ≡ self.old.at) × (index < length self.old.slots) × (length self.old.slots ≤ 8192) }
-        ensures { (self.new.at ≡ self.old.at) × (self.new.slots ≡ slice_set self.old.slots index (Some cell)) }
+        requires { (base ≡ self.old.base) × IsNear base ×
+            (index < length self.old.slots) × (length self.old.slots ≤ 8192) }
+        ensures { self.new ≡ record self.old { slots = slice_set self.old.slots index (Some cell) } }
     {
-        unsafe { base.ptr.add(index).write(cell) }
+        unsafe { base.ptr.add(index * base.stride + base.first).write(cell) }
     }
 
     /// Returns the value of a cell that was written.
     fn read(&self, base: Base, index: usize) -> &Cell
-        requires { (base.ptr ≡ self.now.at) × (length self.now.slots ≤ 8192) × ((x : Cell) × (slice_index_or self.now.slots index None ≡ Some x)) }
+        requires { (base ≡ self.now.base) × IsNear base × (length self.now.slots ≤ 8192) ×
+            ((x : Cell) × (slice_index_or self.now.slots index None ≡ Some x)) }
         ensures { slice_index_or self.now.slots index None ≡ Some result.now }
     {
-        unsafe { &*base.ptr.add(index) }
+        unsafe { &*base.ptr.add(index * base.stride + base.first) }
     }
 }
 
@@ -92,26 +164,30 @@ const WRITTEN: u8 = 255;
 // The mark of a cell that wasn't written, whose slot is absent.
 const ABSENT: u8 = 254;
 
-/// A block of cells, each with a value. It is seen as the list of its cells. A cell is written when it is first put, so that
-/// the system hands out no memory for it before; until then its mark alone says the place of its slot.
+/// Cells of a heap, each with a value. They are seen as their list, and where they lie. A cell is written when it is first
+/// put, so that the system hands out no memory for it before; until then its mark alone says the place of its slot.
 pub struct Cells {
     base: Base,
     cap: u32,
     block: Block,
+    // The right to free the block, if no other heap lies in it.
+    right: Option<Pile>,
     marks: Vec<u8>,
     alloc: Global,
 }
 
 impl Model for Cells {
-    ghost use Rattle.std.specs.Prelude.{List};
-    ghost use Rattle.place_heap.specs.declared.cells.Cell.{Cell};
-    ghost use Rattle.place_heap.specs.Cells.{values_of, IsWritten};
+    ghost use Rattle.place_heap.specs.Held.{Laid};
+    ghost use Rattle.std.specs.Prelude.{is_some};
+    ghost use Rattle.std.specs.Option.{ForSome};
+    ghost use Rattle.place_heap.specs.Cells.{laid, AreCells, IsRight};
 
-    ghost Value = { List Cell };
+    ghost Value = { Laid };
 
-    ghost view = { λ c. values_of c.marks.items c.block.slots c.cap };
+    ghost view = { λ c. laid c.marks.items c.block.base c.block.slots (is_some c.right) c.cap };
 
-    ghost invariant = { λ c. IsWritten c.block.at c.base.ptr c.marks.items c.block.slots c.cap };
+    ghost invariant = { λ c. AreCells c.base c.marks.items c.block.base c.block.slots c.cap ×
+        ForSome c.right (λ p. IsRight c.base c.cap p.base p.len p.strips) };
 }
 
 // A cell with no item.
@@ -153,22 +229,70 @@ impl Cells {
     /// `cap` cells, which no slot and no item is in. Fails where memory runs out.
     pub fn new(alloc: Global, cap: u32) -> Result<Cells, AllocError>
         requires { cap ≤ 8192 }
-        ensures { IfOk result (λ cells. cells ≡ replicate cap (unused_cell cap)) }
+        ensures { IfOk result (λ cells. cells.list ≡ replicate cap (unused_cell cap)) }
     {
         let marks = vec![in alloc; ABSENT; cap as usize]?;
-        let (base, block) = allocate(&alloc, cap as usize)?;
+        let (base, mut pile) = allocate(&alloc, 1, cap as usize)?;
+        let block = pile.split();
         Ok(Cells {
             base,
             cap,
             block,
+            right: Some(pile),
             marks,
             alloc,
         })
     }
 
+    /// `cap` cells, which no slot and no item is in, as the first of what is left of a block.
+    pub(crate) fn part(
+        alloc: Global,
+        base: Base,
+        first: usize,
+        cap: u32,
+        pile: &mut Pile,
+    ) -> Result<Cells, AllocError>
+        requires base { (pile.old.base ≡ record base { first = first }) ×
+            (first < 32) × (base.stride ≤ 32) × (cap ≤ 8192) }
+        requires strips { (rest : List (List (Option Cell))) × (pile.old.strips ≡ blanks cap ∷ rest) }
+        ensures cells { IfOk result (λ cells. cells.list ≡ replicate cap (unused_cell cap)) }
+        ensures spot { IfOk result (λ cells. cells.spot ≡ record { base = pile.old.base; frees = false }) }
+        ensures pile { OnOk result ((pile.new ≡ record pile.old { base = after pile.old.base; strips = pile.new.strips }) ×
+            (pile.old.strips ≡ blanks cap ∷ pile.new.strips)) }
+        ensures same { OnErr result (pile.new ≡ pile.old) }
+    {
+        let marks = vec![in alloc; ABSENT; cap as usize]?;
+        let block = pile.split();
+        Ok(Cells {
+            base: base.of_heap(first),
+            cap,
+            block,
+            right: None,
+            marks,
+            alloc,
+        })
+    }
+
+    /// Takes cells apart that don't free their block.
+    pub(crate) fn into_block(self) -> Block
+        requires { self.spot.frees ≡ false }
+        ensures base { result.base ≡ self.spot.base }
+        ensures len { length result.slots ≡ length self.list }
+    {
+        let Cells {
+            base: _base,
+            cap: _cap,
+            block,
+            right: _right,
+            marks: _marks,
+            alloc: _alloc,
+        } = self;
+        block
+    }
+
     /// How many cells there are, at most 8192.
     pub fn cap(&self) -> u32
-        ensures len { result ≡ length self.now }
+        ensures len { result ≡ length self.now.list }
         ensures small { result ≤ 8192 }
     {
         self.cap
@@ -176,8 +300,8 @@ impl Cells {
 
     /// The cell at a place, in one step.
     pub fn get<L: Ledger>(&self, i: u32, steps: &mut Steps<L>) -> Cell
-        requires { i < length self.now }
-        ensures value { result ≡ cell_at self.now i }
+        requires { i < length self.now.list }
+        ensures value { result ≡ cell_at self.now.list i }
         ensures steps { steps.new ≡ steps.old + 1 }
     {
         steps.tick(); // a read
@@ -191,8 +315,8 @@ impl Cells {
 
     /// Puts a cell in a place, in one step.
     pub fn put<L: Ledger>(&mut self, i: u32, cell: Cell, steps: &mut Steps<L>)
-        requires { i < length self.old }
-        ensures cells { self.new ≡ slice_set self.old i cell }
+        requires { i < length self.old.list }
+        ensures cells { self.new ≡ record self.old { list = slice_set self.old.list i cell } }
         ensures steps { steps.new ≡ steps.old + 1 }
     {
         steps.tick(); // a write
@@ -202,8 +326,10 @@ impl Cells {
 
     /// Puts another place in a cell, in two steps.
     pub fn put_at<L: Ledger>(&mut self, i: u32, at: u32, steps: &mut Steps<L>)
-        requires { i < length self.old }
-        ensures cells { self.new ≡ slice_set self.old i (record { key = (cell_at self.old i).key; slot = (cell_at self.old i).slot; at = at }) }
+        requires { i < length self.old.list }
+        ensures cells { self.new ≡ record self.old {
+          list = slice_set self.old.list i (record (cell_at self.old.list i) { at = at });
+        } }
         ensures steps { steps.new ≡ steps.old + 2 }
     {
         let cell = self.get(i, steps);
@@ -222,10 +348,14 @@ impl Drop for Cells {
             base,
             cap,
             block,
+            right,
             marks,
             alloc,
         } = self;
         let _marks = marks;
-        free(&alloc, base, cap as usize, block);
+        if let Some(mut pile) = right {
+            pile.join(block);
+            free(&alloc, base, 1, cap as usize, pile);
+        }
     }
 }

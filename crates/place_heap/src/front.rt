@@ -41,9 +41,9 @@ fn add<L: Ledger>(
     front: &mut ArrayVec<Candidate, 16>,
     steps: &mut Steps<L>,
 )
-    requires within { len ≤ length cells.now }
+    requires within { len ≤ length cells.now.list }
     requires room { array_vec_len front.old < 16 }
-    ensures front { front.new.items ≡ with_child (items_of cells.now) len place front.old.items }
+    ensures front { front.new.items ≡ with_child (items_of cells.now.list) len place front.old.items }
     ensures steps { steps.new ≤ steps.old + 1 }
 {
     if place < len {

@@ -1,10 +1,10 @@
 //! The heap: slots with their keys, in heap order in a block of cells, with the place of each slot.
-ghost use Rattle.std.specs.Prelude.{◌≡◌, ℕ, ◌+◌, ◌*◌, ◌^◌, ◌<◌, ◌≤◌, ◌↔◌, [], length, max, None, IsTrue, IsSome, IfOk};
+ghost use Rattle.std.specs.Prelude.{◌≡◌, ℕ, ◌+◌, ◌*◌, ◌^◌, ◌<◌, ◌≤◌, ◌↔◌, [], false, length, max, None, IsTrue, IsSome, IfOk};
 ghost use Rattle.place_heap.specs.Order.{placed, without, key_in, first_of, bits};
 ghost use Rattle.place_heap.specs.Held.{list_of, IsKept};
 ghost use Rattle.place_heap.specs.Sifted.{MayMove, IsSifted};
 
-use crate::cells::Cells;
+use crate::cells::{Block, Cells};
 use crate::key::{Item, Key, stands_before};
 use crate::sift::{item_at, place_item, place_of, put_item, put_place, sift_down, sift_up};
 use crate::steps::Steps;
@@ -21,13 +21,13 @@ pub struct PlaceHeap {
 }
 
 impl Model for PlaceHeap {
-    ghost use Rattle.place_heap.specs.Held.{Held, IsKept};
+    ghost use Rattle.place_heap.specs.Held.{Held, AreKept};
 
     ghost Value = { Held };
 
-    ghost view = { λ h. record { cells = h.cells; len = h.len } };
+    ghost view = { λ h. record { cells = h.cells.list; len = h.len; spot = h.cells.spot } };
 
-    ghost invariant = { λ h. IsKept (record { cells = h.cells; len = h.len }) };
+    ghost invariant = { λ h. AreKept h.cells.list h.len };
 }
 
 impl PlaceHeap {
@@ -42,6 +42,16 @@ impl PlaceHeap {
             cells: Cells::new(alloc, cap)?,
             len: 0,
         })
+    }
+
+    /// Takes a heap apart that doesn't free its block.
+    pub(crate) fn into_block(self) -> Block
+        requires { self.spot.frees ≡ false }
+        ensures base { result.base ≡ self.spot.base }
+        ensures len { length result.slots ≡ length self.cells }
+    {
+        let PlaceHeap { cells, len: _len } = self;
+        cells.into_block()
     }
 
     /// How many slots the heap holds.
@@ -99,6 +109,7 @@ impl PlaceHeap {
         requires absent { key_in slot (list_of self.old) ≡ None }
         ensures list { list_of self.new ≡ placed (slot, key) (list_of self.old) }
         ensures cap { length self.new.cells ≡ length self.old.cells }
+        ensures spot { self.new.spot ≡ self.old.spot }
         ensures kept { IsKept self.new }
         ensures steps { steps.new ≤ steps.old + 12 * bits (max self.old.len self.new.len) + 24 }
     {
@@ -113,6 +124,7 @@ impl PlaceHeap {
         requires { IsSome (key_in slot (list_of self.old)) }
         ensures list { list_of self.new ≡ placed (slot, key) (without slot (list_of self.old)) }
         ensures cap { length self.new.cells ≡ length self.old.cells }
+        ensures spot { self.new.spot ≡ self.old.spot }
         ensures kept { IsKept self.new }
         ensures steps { steps.new ≤ steps.old + 12 * bits (max self.old.len self.new.len) + 24 }
     {
@@ -131,6 +143,7 @@ impl PlaceHeap {
         requires { IsSome (key_in slot (list_of self.old)) }
         ensures list { list_of self.new ≡ without slot (list_of self.old) }
         ensures cap { length self.new.cells ≡ length self.old.cells }
+        ensures spot { self.new.spot ≡ self.old.spot }
         ensures kept { IsKept self.new }
         ensures steps { steps.new ≤ steps.old + 12 * bits (max self.old.len self.new.len) + 24 }
     {
@@ -146,6 +159,36 @@ impl PlaceHeap {
             sift(&mut self.cells, last, place, had, item, steps);
         }
     }
+
+    /// Gives a slot this key, whether or not the heap holds it.
+    #[tactic(auto, using(crate::proofs::Absent::without_absent))]
+    pub fn put<L: Ledger>(&mut self, slot: u32, key: Key, steps: &mut Steps<L>)
+        requires { slot < length self.old.cells }
+        ensures list { list_of self.new ≡ placed (slot, key) (without slot (list_of self.old)) }
+        ensures cap { length self.new.cells ≡ length self.old.cells }
+        ensures spot { self.new.spot ≡ self.old.spot }
+        ensures steps { steps.new ≤ steps.old + 12 * bits (max self.old.len self.new.len) + 26 }
+    {
+        if self.has(slot, steps) {
+            self.update(slot, key, steps);
+        } else {
+            self.insert(slot, key, steps);
+        }
+    }
+
+    /// Takes a slot out, if the heap holds it.
+    #[tactic(auto, using(crate::proofs::Absent::without_absent))]
+    pub fn take_out<L: Ledger>(&mut self, slot: u32, steps: &mut Steps<L>)
+        requires { slot < length self.old.cells }
+        ensures list { list_of self.new ≡ without slot (list_of self.old) }
+        ensures cap { length self.new.cells ≡ length self.old.cells }
+        ensures spot { self.new.spot ≡ self.old.spot }
+        ensures steps { steps.new ≤ steps.old + 12 * bits (max self.old.len self.new.len) + 26 }
+    {
+        if self.has(slot, steps) {
+            self.remove(slot, steps);
+        }
+    }
 }
 
 /// Moves an item that took the place of another to where it belongs.
@@ -157,8 +200,9 @@ fn sift<L: Ledger>(
     item: Item,
     steps: &mut Steps<L>,
 )
-    requires { MayMove cells.old len from had item }
-    ensures sifted { IsSifted cells.old cells.new len }
+    requires { MayMove cells.old.list len from had item }
+    ensures sifted { IsSifted cells.old.list cells.new.list len }
+    ensures spot { cells.new.spot ≡ cells.old.spot }
     ensures steps { (b : ℕ) → len < 2 ^ b → steps.new ≤ steps.old + 10 * b + 2 }
 {
     if stands_before(item, had) {

@@ -9,11 +9,13 @@
 mod cells;
 mod front;
 mod heap;
+mod heaps;
 mod key;
 mod sift;
 mod steps;
 
 pub use cells::{Cell, Cells};
 pub use heap::PlaceHeap;
+pub use heaps::PlaceHeaps;
 pub use key::{Item, Key};
 pub use steps::Steps;

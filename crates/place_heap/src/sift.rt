@@ -10,8 +10,8 @@ use std::sync::ledger::Ledger;
 
 /// The item in a place, in one step.
 pub(crate) fn item_at<L: Ledger>(cells: &Cells, i: u32, steps: &mut Steps<L>) -> Item
-    requires { i < length cells.now }
-    ensures item { result ≡ at (items_of cells.now) i }
+    requires { i < length cells.now.list }
+    ensures item { result ≡ at (items_of cells.now.list) i }
     ensures steps { steps.new ≡ steps.old + 1 }
 {
     let cell = cells.get(i, steps);
@@ -20,8 +20,8 @@ pub(crate) fn item_at<L: Ledger>(cells: &Cells, i: u32, steps: &mut Steps<L>) ->
 
 /// The place of a slot, in one step.
 pub(crate) fn place_of<L: Ledger>(cells: &Cells, slot: u32, steps: &mut Steps<L>) -> u32
-    requires { slot < length cells.now }
-    ensures place { result ≡ slice_index (places_of cells.now) slot }
+    requires { slot < length cells.now.list }
+    ensures place { result ≡ slice_index (places_of cells.now.list) slot }
     ensures steps { steps.new ≡ steps.old + 1 }
 {
     cells.get(slot, steps).at
@@ -29,10 +29,11 @@ pub(crate) fn place_of<L: Ledger>(cells: &Cells, slot: u32, steps: &mut Steps<L>
 
 /// Puts an item in a place, in two steps.
 pub(crate) fn put_item<L: Ledger>(cells: &mut Cells, i: u32, item: Item, steps: &mut Steps<L>)
-    requires { i < length cells.old }
-    ensures items { items_of cells.new ≡ slice_set (items_of cells.old) i item }
-    ensures places { places_of cells.new ≡ places_of cells.old }
-    ensures len { length cells.new ≡ length cells.old }
+    requires { i < length cells.old.list }
+    ensures items { items_of cells.new.list ≡ slice_set (items_of cells.old.list) i item }
+    ensures places { places_of cells.new.list ≡ places_of cells.old.list }
+    ensures len { length cells.new.list ≡ length cells.old.list }
+    ensures spot { cells.new.spot ≡ cells.old.spot }
     ensures steps { steps.new ≡ steps.old + 2 }
 {
     let at = cells.get(i, steps).at;
@@ -42,10 +43,11 @@ pub(crate) fn put_item<L: Ledger>(cells: &mut Cells, i: u32, item: Item, steps: 
 
 /// Notes the place of a slot, in two steps.
 pub(crate) fn put_place<L: Ledger>(cells: &mut Cells, slot: u32, place: u32, steps: &mut Steps<L>)
-    requires { slot < length cells.old }
-    ensures items { items_of cells.new ≡ items_of cells.old }
-    ensures places { places_of cells.new ≡ slice_set (places_of cells.old) slot place }
-    ensures len { length cells.new ≡ length cells.old }
+    requires { slot < length cells.old.list }
+    ensures items { items_of cells.new.list ≡ items_of cells.old.list }
+    ensures places { places_of cells.new.list ≡ slice_set (places_of cells.old.list) slot place }
+    ensures len { length cells.new.list ≡ length cells.old.list }
+    ensures spot { cells.new.spot ≡ cells.old.spot }
     ensures steps { steps.new ≡ steps.old + 2 }
 {
     cells.put_at(slot, place, steps);
@@ -53,11 +55,12 @@ pub(crate) fn put_place<L: Ledger>(cells: &mut Cells, slot: u32, place: u32, ste
 
 /// Puts an item in a place and notes the place of its slot, in four steps.
 pub(crate) fn place_item<L: Ledger>(cells: &mut Cells, i: u32, item: Item, steps: &mut Steps<L>)
-    requires place { i < length cells.old }
-    requires slot { item.0 < length cells.old }
-    ensures items { items_of cells.new ≡ slice_set (items_of cells.old) i item }
-    ensures places { places_of cells.new ≡ slice_set (places_of cells.old) item.0 i }
-    ensures len { length cells.new ≡ length cells.old }
+    requires place { i < length cells.old.list }
+    requires slot { item.0 < length cells.old.list }
+    ensures items { items_of cells.new.list ≡ slice_set (items_of cells.old.list) i item }
+    ensures places { places_of cells.new.list ≡ slice_set (places_of cells.old.list) item.0 i }
+    ensures len { length cells.new.list ≡ length cells.old.list }
+    ensures spot { cells.new.spot ≡ cells.old.spot }
     ensures steps { steps.new ≡ steps.old + 4 }
 {
     put_item(cells, i, item, steps);
@@ -72,8 +75,9 @@ pub(crate) fn sift_up<L: Ledger>(
     item: Item,
     steps: &mut Steps<L>,
 )
-    requires { CanSiftUp cells.old len from item }
-    ensures sifted { IsSifted cells.old cells.new len }
+    requires { CanSiftUp cells.old.list len from item }
+    ensures sifted { IsSifted cells.old.list cells.new.list len }
+    ensures spot { cells.new.spot ≡ cells.old.spot }
     ensures steps { (b : ℕ) → from < 2 ^ b → steps.new ≤ steps.old + 9 * b + 1 }
 {
     let mut i = from;
@@ -91,10 +95,10 @@ pub(crate) fn sift_up<L: Ledger>(
 
 /// The child of a place whose item stands before that of the other, in at most two steps.
 fn least_child<L: Ledger>(cells: &Cells, len: u32, i: u32, steps: &mut Steps<L>) -> (u32, Item)
-    requires within { len ≤ length cells.now }
-    requires small { length cells.now ≤ 8192 }
+    requires within { len ≤ length cells.now.list }
+    requires small { length cells.now.list ≤ 8192 }
     requires child { 2 * i + 1 < len }
-    ensures least { IsLeastChild (items_of cells.now) len i result.0 result.1 }
+    ensures least { IsLeastChild (items_of cells.now.list) len i result.0 result.1 }
     ensures steps { steps.new ≤ steps.old + 2 }
 {
     let left = 2 * i + 1;
@@ -119,8 +123,9 @@ pub(crate) fn sift_down<L: Ledger>(
     item: Item,
     steps: &mut Steps<L>,
 )
-    requires { CanSiftDown cells.old len from item }
-    ensures sifted { IsSifted cells.old cells.new len }
+    requires { CanSiftDown cells.old.list len from item }
+    ensures sifted { IsSifted cells.old.list cells.new.list len }
+    ensures spot { cells.new.spot ≡ cells.old.spot }
     ensures steps { (b : ℕ) → len < 2 ^ b → steps.new ≤ steps.old + 10 * b + 2 }
 {
     let mut i = from;

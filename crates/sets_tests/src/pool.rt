@@ -22,6 +22,8 @@ fn take_others(rt: &impl Abort, pool: &mut MsgPool, first: &Lease) -> Result<Lea
     requires { IsLeaseOf pool.old first.now }
     ensures { IsLeaseOf pool.new first.now }
 {
+    assert_eq!(rt; pool.check_room(8192), Ok(()));
+    assert_eq!(rt; pool.check_room(8193), Err(PoolFull { need: 3, free: 2 }));
     let second = pool.take(4097)?;
     assert_eq!(rt; pool.free(), 0);
     assert_eq!(rt; pool.take(1).err(), Some(PoolFull { need: 1, free: 0 }));

@@ -5,6 +5,7 @@ use Rattle.std.specs.Prelude.{◌==◌, nat_le, slice_get}
 use Rattle.std.specs.List.{flat_map, AllWithin}
 use Rattle.std.specs.List.Sorted.{IsPartitionedBy}
 use Rattle.std.proofs.lemmas.Bool.Decides.{nat_tests}
+use Rattle.std.proofs.lemmas.List.{get_or_default}
 use Rattle.world_packets.specs.Kept.{KeptPacket}
 use Rattle.world_packets.specs.Firsts.{firsts_at, IsIn}
 use Rattle.world_packets.proofs.Frames.{both, join, from_le, to_le, from_eq}
@@ -117,3 +118,20 @@ module _ {T : Type 0} (first : T → ℕ) (kept : T → List KeptPacket) where
         place = rest.place;
         same = get-right (kept u) (flat_map kept (v ∷ ts)) (n - (m + length (kept u))) (n - m) (omega (arith, later)) ∙ rest.same;
       }
+
+  -- there is a part
+  pub has_some : (m n : ℕ) (ts : List T) (end : ℕ) → firsts_at first kept m ts end ≡ true → m ≤ n → n < end → 0 < length ts
+  has_some m n ts end e from to = some_before m n ts end (length ts) e from to (λ k d a b. absurd (omega (arith, a, b)))
+
+  -- the last part has the packet if it begins no later
+  pub in_last : (m n : ℕ) (ts : List T) (end i : ℕ) (t : T) → firsts_at first kept m ts end ≡ true → m ≤ n → n < end → i + 1 ≡ length ts
+      → t ≡ get_or ts i t → first t ≤ n → IsIn first kept ts m n t
+  in_last m n ts end i t e from to at is below =
+      let place : i ≡ length ts - 1 = omega (arith, at) in
+      is_in m n ts end (length ts) t e from to (omega arith)
+      (λ k d a b.
+      let up = rises m ts end k i d e (omega (arith, b, at)) (omega (arith, at)) in
+      let same : get_or ts i d ≡ t = get_or_default ts i d t (omega (arith, at)) ∙ sym is in
+      to_le (first (get_or ts k d)) n (omega (arith, up, ap first same, below)))
+      (λ k d a b. absurd (omega (arith, a, b)))
+      (is ∙ ap (λ (k : ℕ). get_or ts k t) place)

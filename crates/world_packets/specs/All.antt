@@ -20,6 +20,10 @@ settings_of p = p.settings
 abbrev pub open_tick : Packets → ℕ
 open_tick p = p.tick
 
+-- the number of the first packet of the block in which the next ones are put
+abbrev pub open_number : Packets → ℕ
+open_number p = p.first
+
 -- no memory is taken for so many more
 pub record HasRoomFor (p : Packets) (n : ℕ) : Type 0 where
   pub room : HasRoom p.front n

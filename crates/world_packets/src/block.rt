@@ -91,6 +91,14 @@ impl Block {
         Ok(())
     }
 
+    /// Whether there is room for 64 more packets.
+    pub(crate) fn has_room(&self) -> bool
+        ensures { result ≡ true → HasRoom self.now 64 }
+    {
+        self.recs.len() + 64 <= self.recs.capacity()
+            && self.bytes.len() + 64 * LONGEST <= self.bytes.capacity()
+    }
+
     /// No packet any more; the room stays.
     pub(crate) fn clear(&mut self)
         ensures frames { frames_of self.new ≡ [] }

@@ -1,11 +1,12 @@
 // All packets of a world, by their numbers.
 ghost use Rattle.std.specs.Prelude.{◌≡◌, ◌≤◌, ◌<◌, ◌+◌, ◌*◌, ◌^◌, ◌++◌, ◌∷◌, [], ℕ, true, Some, None, length, slice_get, nat_le, nat_lt};
-ghost use Rattle.std.specs.Prelude.{OnOk, OnErr, IfOk, MatchOption, drop};
+ghost use Rattle.std.specs.Prelude.{OnOk, OnErr, IfOk, IfSome, IfNone, MatchOption, drop, false};
 ghost use Rattle.std.specs.List.{list_all, flat_map};
 ghost use Rattle.homa_plain.specs.declared.settings.Settings.{Settings};
 ghost use Rattle.homa_plain.specs.Settings.{IsValid};
 ghost use Rattle.world_packets.specs.declared.tick.Tick.{Tick};
 ghost use Rattle.world_packets.specs.Firsts.{firsts_at};
+ghost use Rattle.world_packets.specs.Kept.{HasNoOld};
 ghost use Rattle.world_packets.specs.Ticks.{kept_of};
 ghost use Rattle.world_packets.specs.Past.{past_kept, wire_of};
 ghost use Rattle.world_packets.specs.Blocks.{frames_of, size_of};
@@ -100,17 +101,20 @@ pub struct Packets {
     front: Block,
     tick: u64,
     first: u64,
+    // Whether a `reserve` went through the ticks at this one: none of them has become too old since.
+    swept: bool,
     ghost valid: { IsValid settings },
     ghost firsts: { firsts_at (λ (t : Tick). t.first) kept_of (length (past_kept past)) ticks.items first ≡ true },
     ghost few: { first + length (frames_of front) < 2 ^ 64 },
     ghost wire: { wire_of past ≡ settings.wire },
     ghost filled: { list_all (λ (t : Tick). nat_lt 0 (length (kept_of t))) ticks.items ≡ true },
+    ghost swept_is: { swept ≡ true → ∥ HasNoOld settings tick (flat_map kept_of ticks.items) ∥₁ },
 }
 
 impl Packets {
-    ghost use Rattle.world_packets.specs.Kept.{WholePacket, kept_seen, AllAged, HasNoOld};
+    ghost use Rattle.world_packets.specs.Kept.{WholePacket, kept_seen, AllAged};
     ghost use Rattle.world_packets.specs.Firsts.{IsIn};
-    ghost use Rattle.world_packets.specs.All.{kept_all, settings_of, open_tick, HasRoomFor};
+    ghost use Rattle.world_packets.specs.All.{kept_all, settings_of, open_tick, open_number, HasRoomFor};
 
     /// No packet was sent yet. It takes no memory.
     pub fn open(alloc: Global, settings: &Settings) -> Packets
@@ -126,6 +130,7 @@ impl Packets {
             front: Block::open(alloc),
             tick: 0,
             first: 0,
+            swept: false,
         }
     }
 
@@ -141,8 +146,10 @@ impl Packets {
         ensures kept { kept_all self.new ≡ kept_all self.old }
         ensures closed { OnOk result (frames_of self.new.front ≡ []) }
         ensures size { OnOk result (size_of self.new.front ≡ 0) }
+        ensures swept { self.new.swept ≡ false }
         ensures settings { settings_of self.new ≡ settings_of self.old }
     {
+        self.swept = false;
         let count = self.front.len() as u64;
         if count == 0 {
             self.front.clear();
@@ -183,6 +190,7 @@ impl Packets {
         ensures front { self.new.front ≡ self.old.front }
         ensures tick { self.new.tick ≡ self.old.tick }
     {
+        self.swept = false;
         while !self.ticks.is_empty() {
             if !self.past.take(&self.settings, &self.ticks[0], now)? {
                 break;
@@ -190,6 +198,25 @@ impl Packets {
             give_up(&mut self.ticks, &mut self.spare);
         }
         Ok(())
+    }
+
+    /// Whether a `reserve` at this tick would change nothing.
+    pub fn is_ready(&self, now: u64) -> bool
+        requires { length (kept_all self.now) + 64 < 2 ^ 64 }
+        ensures no_old { result ≡ true → ∥ HasNoOld (settings_of self.now) now (kept_all self.now) ∥₁ }
+        ensures room { result ≡ true → HasRoomFor self.now 64 }
+        ensures tick { result ≡ true → open_tick self.now ≡ now }
+    {
+        if !self.swept {
+            return false;
+        }
+        if self.tick != now {
+            return false;
+        }
+        if self.front.size() > MOST_SIZE {
+            return false;
+        }
+        self.front.has_room()
     }
 
     /// The packets that are pushed next are sent in the tick `now`, which isn't below the last one; there is room for 64 of them.
@@ -206,6 +233,7 @@ impl Packets {
         self.turn_over(alloc, now)?;
         self.expire(now)?;
         self.front.reserve()?;
+        self.swept = true;
         Ok(())
     }
 
@@ -227,6 +255,11 @@ impl Packets {
         requires to { n < self.now.first }
         ensures { IsIn (λ (t : Tick). t.first) kept_of self.now.ticks.items (length (past_kept self.now.past)) n result.now }
     {
+        // Most packets that are asked for are of the last of these ticks.
+        let last = self.ticks.len() - 1;
+        if self.ticks[last].first <= n {
+            return &self.ticks[last];
+        }
         let place = self.ticks.partition_point(
             |tick: &Tick| -> bool
                 ensures { result ≡ nat_le tick.now.first n }
@@ -235,27 +268,38 @@ impl Packets {
         &self.ticks[place - 1]
     }
 
+    /// What is kept of the packet with this number, if it is one of the last ones: those of the block in which the next are put.
+    pub fn recent(&self, n: u64) -> Option<Kept<'_>>
+        ensures some { IfSome result (λ kept. slice_get (kept_all self.now) n ≡ Some (kept_seen kept)) }
+        ensures none { IfNone result (open_number self.now ≤ n → length (kept_all self.now) ≤ n) }
+    {
+        if n < self.first {
+            return None;
+        }
+        let i = (n - self.first) as usize;
+        if i >= self.front.len() {
+            return None;
+        }
+        let (from, to, bytes) = self.front.get(i);
+        Some(Kept::Whole {
+            tick: self.tick,
+            from,
+            to,
+            bytes,
+        })
+    }
+
     /// What is kept of the packet with this number, if so many were sent.
     pub fn get(&self, n: u64) -> Option<Kept<'_>>
         ensures { MatchOption result (length (kept_all self.now) ≤ n) (λ kept. slice_get (kept_all self.now) n ≡ Some (kept_seen kept)) }
     {
+        if n >= self.first {
+            return self.recent(n);
+        }
         if n < self.past.len() {
             return Some(self.past.get(n));
         }
-        if n < self.first {
-            let tick = self.find(n);
-            return Some(tick.get((n - tick.first) as usize));
-        }
-        let i = (n - self.first) as usize;
-        if i < self.front.len() {
-            let (from, to, bytes) = self.front.get(i);
-            return Some(Kept::Whole {
-                tick: self.tick,
-                from,
-                to,
-                bytes,
-            });
-        }
-        None
+        let tick = self.find(n);
+        Some(tick.get((n - tick.first) as usize))
     }
 }

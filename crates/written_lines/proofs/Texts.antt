@@ -1,5 +1,5 @@
 -- The texts of bytes, words and lines, part by part.
-use Rattle.std.proofs.Common.{◌≡◌, ◌<◌, ◌≤◌, ℕ, ◌+◌, ◌-◌, ◌/◌, ◌%◌, decimal, suc, arith, List, []}
+use Rattle.std.proofs.Common.{◌≡◌, ◌<◌, ◌≤◌, ℕ, ◌+◌, ◌-◌, ◌*◌, ◌/◌, ◌%◌, decimal, suc, arith, List, []}
 use Rattle.std.proofs.Common.{◌∷◌, ◌++◌, length, map, take, drop, get_or, refl, sym, ap, ◌∙◌, append_assoc}
 use Rattle.std.specs.List.{flat_map, join_with_byte}
 use Rattle.std.proofs.lemmas.List.{take_more, take_rest, take-append-drop, append-nil}
@@ -7,6 +7,7 @@ use Rattle.std.proofs.lemmas.Fmt.{decimal_digit, decimal_step}
 use Rattle.std.proofs.lemmas.Grind.{flat_map-append}
 use Rattle.std.proofs.Math.Seq.{take-add, split_at}
 use Rattle.hex.specs.Hex.{encode_with, lower_digits, encode_lower}
+use Rattle.hex.proofs.HexLemmas.{length-encode_with}
 use Rattle.homa_plain.specs.Text.{line_of_words}
 use Rattle.written_lines.specs.declared.written.Word.{Word}
 use Rattle.written_lines.specs.Written.{word_text, spaced_word}
@@ -19,6 +20,10 @@ encode_with-append t (x ∷ xs) ys = simp (encode_with-append t xs ys)
 -- a part that is added behind the parts so far
 pub part_on : (i j old d e all : List ℕ) → i ≡ old ++ d → j ≡ i ++ e → d ++ e ≡ all → j ≡ old ++ all
 part_on i j old d e all f g h = g ∙ (ap (λ (l : List ℕ). l ++ e) f ∙ (append_assoc old d e ∙ ap (λ (l : List ℕ). old ++ l) h))
+
+-- a byte has two digits
+pub two_digits_each : (bytes : List ℕ) → length (encode_lower bytes) ≡ 2 * length bytes
+two_digits_each bytes = length-encode_with lower_digits bytes
 
 -- no bytes have no digits
 pub encode_lower-nil : encode_lower [] ≡ []

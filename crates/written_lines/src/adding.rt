@@ -2,8 +2,10 @@
 ghost use Rattle.std.specs.Prelude.{◌≡◌, ◌≤◌, ◌<◌, ◌+◌, ◌*◌, ◌++◌, length, map, slice_index, decimal};
 ghost use Rattle.hex.specs.Hex.{lower_digits, encode_lower};
 ghost use Rattle.written_lines.specs.Turns.{by_turns, high_digit, low_digit};
+ghost use Rattle.arrayvec.specs.ArrayVec.{array_vec_len};
 
 use crate::LineBuffer;
+use arrayvec::ArrayVec;
 use itoa::Buffer;
 
 // How many bytes are made to digits at once.
@@ -132,23 +134,23 @@ pub fn add_number<T: LineBuffer>(text: &mut T, n: u64)
 }
 
 // Adds fewer bytes than a part has, in hex.
-fn add_chunk<T: LineBuffer>(text: &mut T, bytes: &[u8])
+fn add_chunk<const N: usize>(text: &mut ArrayVec<u8, N>, bytes: &[u8])
     requires few { length bytes.now ≤ 64 }
-    requires room { 2 * length bytes.now ≤ T.space text.old }
-    ensures items { T.content text.new ≡ T.content text.old ++ encode_lower bytes.now }
-    ensures len { T.space text.new + 2 * length bytes.now ≡ T.space text.old }
+    requires room { array_vec_len text.old + 2 * length bytes.now ≤ N }
+    ensures items { text.new.items ≡ text.old.items ++ encode_lower bytes.now }
+    ensures len { array_vec_len text.new ≡ array_vec_len text.old + 2 * length bytes.now }
 {
     let mut digits = [0; 128];
     let out = &mut digits[..2 * bytes.len()];
     write_digits(bytes, out);
-    add(text, out);
+    text.try_extend_from_slice(out).unwrap();
 }
 
-/// Adds bytes in hex, where the text has room for two digits of each.
-pub fn add_hex<T: LineBuffer>(text: &mut T, bytes: &[u8])
-    requires { 2 * length bytes.now ≤ T.space text.old }
-    ensures items { T.content text.new ≡ T.content text.old ++ encode_lower bytes.now }
-    ensures len { T.space text.new + 2 * length bytes.now ≡ T.space text.old }
+/// Adds bytes in hex, part by part, where the text has room for two digits of each.
+pub(crate) fn add_parts<const N: usize>(text: &mut ArrayVec<u8, N>, bytes: &[u8])
+    requires { array_vec_len text.old + 2 * length bytes.now ≤ N }
+    ensures items { text.new.items ≡ text.old.items ++ encode_lower bytes.now }
+    ensures len { array_vec_len text.new ≡ array_vec_len text.old + 2 * length bytes.now }
 {
     let mut done = 0;
     while done < bytes.len() {
@@ -156,4 +158,14 @@ pub fn add_hex<T: LineBuffer>(text: &mut T, bytes: &[u8])
         add_chunk(text, &bytes[done..done + n]);
         done += n;
     }
+}
+
+/// Adds bytes in hex, where the text has room for two digits of each.
+#[inline(always)]
+pub fn add_hex<T: LineBuffer>(text: &mut T, bytes: &[u8])
+    requires { 2 * length bytes.now ≤ T.space text.old }
+    ensures items { T.content text.new ≡ T.content text.old ++ encode_lower bytes.now }
+    ensures len { T.space text.new + 2 * length bytes.now ≡ T.space text.old }
+{
+    text.push_hex(bytes);
 }

@@ -12,4 +12,4 @@ returns-in-Err-clause-carried g c =
     c.refused.ensures
 
 pub returns-clause-carried : goal.returns-clause-carried
-returns-clause-carried g c = λ w h. one_carried _ _ _ _ _ _ _ _ _ (c.in-Ok.ensures.done w h) c.in_ok-count_entries.ensures
+returns-clause-carried g c = λ w h. one_carried _ _ _ _ _ _ _ _ _ (c.in-Ok.ensures.done w h) c.in_ok-count_lines.ensures

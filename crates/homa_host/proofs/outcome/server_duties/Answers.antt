@@ -6,9 +6,9 @@ use Rattle.msg_pool.specs.Pool.{Pool}
 use Rattle.homa_in.specs.Part.{Part}
 use Rattle.homa_in.specs.Pooled.{IsInPool, seen_part}
 use Rattle.homa_server.specs.Held.{HeldState, Arriving, Keeping, Answering, Gone, seen_state, state_part}
-use Rattle.homa_server.specs.Answers.{out_facts}
 use Rattle.homa_server.proofs.StandLaws.{in_pool}
-use Rattle.host_books.specs.Duty.{timer_duty, arrival_duty, arriving, reply_duty}
+use Rattle.host_books.specs.Duty.{timer_duty, arrival_duty, arriving}
+use Rattle.homa_host.proofs.ReplyDuty.{waiting_reply}
 use Rattle.homa_host.proofs.outcome.server_duties.Goals as goal
 
 arriving_part : (pool : Pool) (state : HeldState) → seen_part pool (state_part state) ≡ arriving (seen_state pool state)
@@ -16,14 +16,6 @@ arriving_part pool (Arriving service part base count) = refl
 arriving_part pool (Keeping response release) = refl
 arriving_part pool (Answering response out order base count) = refl
 arriving_part pool (Gone until) = refl
-
-waiting_reply : (pool : Pool) (state : HeldState)
-    → option_and_then (λ (o : OutFacts). cond o.waiting (Some (record { left = o.left; order = o.order })) None) (out_facts state) ≡ reply_duty
-    (seen_state pool state)
-waiting_reply pool (Arriving service part base count) = refl
-waiting_reply pool (Keeping response release) = refl
-waiting_reply pool (Answering response out order base count) = refl
-waiting_reply pool (Gone until) = refl
 
 pub returns : goal.returns
 returns c id r pool stands are =

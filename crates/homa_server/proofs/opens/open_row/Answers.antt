@@ -10,17 +10,17 @@ returns-in_err-reply-in-Whole-clause-asks g c = on_err c.from_residual.result _ 
     subst (λ (request : List ℕ). IsAsked id c.args.piece.service request (opens c.args.settings.now m id piece a)) (sym c.in-Whole.ensures.message)
     (opens-asks c.args.settings.now m id piece a room (rw free c.in-Whole.ensures.enough) c.in-Whole.ensures.whole))
 
-pub returns-in-Begun-clause-did : goal.returns-in-Begun-clause-did
-returns-in-Begun-clause-did g c id host rows version slot same room a _ =
+pub returns-in-Some-clause-did : goal.returns-in-Some-clause-did
+returns-in-Some-clause-did g c id host rows version slot same room a _ =
     begun_did c.args.settings.now id host c.args.at.now c.args.at.order rows version c.args.piece.service c.args.piece.size c.args.piece.offset
     c.args.piece.bytes.now
     c.args.lent.now.pool.now c.open_part.new.pool c.args.client same room
-    c.in-Begun.part c.receiving.result c.in-Begun.ensures c.receiving.ensures a
+    c.in-Some.part c.receiving-row.result (rw c.in-Some.is at c.in-Begun.ensures) c.receiving-row.ensures a
 
 pub returns-in_ok-reply-in-Whole-clause-did : goal.returns-in_ok-reply-in-Whole-clause-did
 returns-in_ok-reply-in-Whole-clause-did g c id host rows version slot same room a answer =
     whole_did c.args.settings.now id host c.args.at.now c.args.at.order rows version c.args.piece.service c.args.piece.size c.args.piece.offset
     c.args.piece.bytes.now
     c.args.lent.now.pool.now c.open_part.new.pool c.args.client same room
-    c.open_part.new.scratch c.in_ok-reply-in-Whole.reply.bytes c.hold-hold.result c.replied-row.result c.in-Whole.ensures
+    c.open_part.new.scratch c.in_ok-reply-in-Whole.reply.bytes c.hold-hold.result c.replied-row.result c.open_part.new.part c.in-Whole.ensures
     (rw c.hold-hold.ensures c.replied-row.ensures) a answer

@@ -6,9 +6,10 @@ use Rattle.place_heap.proofs.sift.sift_down.Given as goal
 
 abbrev pub invariant-down : goal.invariant-down
 invariant-down g l = record {
-  can : CanSiftDown l.cells l.len l.i l.item;
-  same_len : length l.cells ≡ length l.fn.cells;
-  list : ordered (take l.len (items_of l.cells)) ≡ ordered (take l.len (items_of l.fn.cells));
+  can : CanSiftDown l.cells.list l.len l.i l.item;
+  same_len : length l.cells.list ≡ length l.fn.cells.list;
+  spot : l.cells.spot ≡ l.fn.cells.spot;
+  list : ordered (take l.len (items_of l.cells.list)) ≡ ordered (take l.len (items_of l.fn.cells.list));
   cost : (b : ℕ) → l.len < 2 ^ b → (c : ℕ) × (l.len < (l.i + 1) * 2 ^ c) × (l.steps + 10 * c ≤ l.fn.steps + 10 * b);
 }
 

@@ -7,14 +7,15 @@ use Rattle.place_heap.proofs.sift.sift_up.Goals as goal
 pub up-preserved : goal.up-preserved
 up-preserved g c =
     let above = c.item_at-parent.result in let one = c.place_item.ensures in let two = c.place_item-in-up.ensures in
-    let wrote = wrote_both c.up.cells c.place_item.new.cells c.place_item-in-up.new.cells c.up.i (parent c.up.i) c.args.item above one.items
+    let wrote = wrote_both c.up.cells.list c.place_item.new.cells.list c.place_item-in-up.new.cells.list c.up.i (parent c.up.i) c.args.item above one.items
     one.places one.len two.items two.places two.len in
-    let step = sift_up_step c.up.cells c.place_item-in-up.new.cells c.args.len c.up.i c.args.item above c.up-test.true c.up.invariant.can
+    let step = sift_up_step c.up.cells.list c.place_item-in-up.new.cells.list c.args.len c.up.i c.args.item above c.up-test.true c.up.invariant.can
     (sym c.item_at-parent.ensures.item)
     (sym c.stands_before.ensures ∙ c.if-not-stands_before.false) wrote in
     record {
       can = step.0;
       same_len = step.1.same_len ∙ c.up.invariant.same_len;
+      spot = two.spot ∙ one.spot ∙ c.up.invariant.spot;
       list = step.1.list ∙ c.up.invariant.list;
       cost = λ b small.
           let had = c.up.invariant.cost b small in

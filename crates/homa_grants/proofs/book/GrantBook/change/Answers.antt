@@ -1,10 +1,11 @@
 -- The message of the slot is in the heap of its peer, under its key.
-use Rattle.std.proofs.Common.{◌≡◌, ap, subst, sym, ◌∙◌, arith}
+use Rattle.std.proofs.Common.{◌≡◌, ap, get_or, subst, sym, ◌∙◌, arith}
 use Rattle.place_heap.specs.declared.key.Key.{Key}
 use Rattle.plain_sets.specs.Ordered.{placed}
 use Rattle.plain_sets.proofs.MapMembers.{same_some}
 use Rattle.homa_grants.specs.Entries.{entry_key, without, with_remaining, IsOwnOrder}
 use Rattle.homa_grants.specs.Books.{Book}
+use Rattle.place_heap.specs.Heaps.{no_heap}
 use Rattle.homa_grants.proofs.KeptLaws.{kept_as, in_table, not_in_table, not_none, slot_within, own_order, own_peer, slot_fits, own_key}
 use Rattle.homa_grants.proofs.book.GrantBook.change.Goals as goal
 
@@ -19,23 +20,23 @@ unreachable-requires c =
     let none = not_in_table kept c.args.slot c.index.result.now (slot_within kept c.args.slot c.requires) c.index.ensures c.in_default.is in
     not_none _ c.requires none
 
-pub index-requires-2 : goal.index-requires-2
-index-requires-2 c =
+pub get-requires : goal.get-requires
+get-requires c =
     let kept = kept_as c.self.view_is c.self.invariant in
     let message = in_table kept c.args.slot c.index.result.now c.in-Some.peer (slot_within kept c.args.slot c.requires) c.index.ensures c.in-Some.is in
-    omega (arith, message.peer_in, kept.hosts, c.self.inside.heaps.ok.0)
+    omega (arith, message.peer_in, kept.hosts, c.from.ensures)
 
 pub key-requires : goal.key-requires
 key-requires c =
     let kept = kept_as c.self.view_is c.self.invariant in
     let message = in_table kept c.args.slot c.index.result.now c.in-Some.peer (slot_within kept c.args.slot c.requires) c.index.ensures c.in-Some.is in
-    slot_fits kept message c.index-2.result.now c.index-2.ensures
+    slot_fits kept message c.get.result.now (c.get.ensures ∙ ap (λ n. get_or c.self.inside.heaps.list n no_heap) c.from.ensures)
 
 pub unreachable-requires-in_default-key : goal.unreachable-requires-in_default-key
 unreachable-requires-in_default-key c =
     let kept = kept_as c.self.view_is c.self.invariant in
     let message = in_table kept c.args.slot c.index.result.now c.in-Some.peer (slot_within kept c.args.slot c.requires) c.index.ensures c.in-Some.is in
-    let has = own_key kept message c.index-2.result.now c.index-2.ensures in
+    let has = own_key kept message c.get.result.now (c.get.ensures ∙ ap (λ n. get_or c.self.inside.heaps.list n no_heap) c.from.ensures) in
     cc (has, c.key.ensures, c.in_default-key.is)
 
 pub put-requires-clause-slot : goal.put-requires-clause-slot
@@ -51,10 +52,11 @@ put-requires-clause-order c key is =
     let kept = kept_as c.self.view_is c.self.invariant in
     let message = in_table kept c.args.slot c.index.result.now c.in-Some.peer (slot_within kept c.args.slot c.requires) c.index.ensures c.in-Some.is in
     let had : record { first = message.entry.remaining; second = message.entry.order } ≡ c.in-Some-key.key =
-    same_some _ _ (sym (own_key kept message c.index-2.result.now c.index-2.ensures) ∙ sym c.key.ensures ∙ c.in-Some-key.is) in
+    same_some _ _ (sym (own_key kept message c.get.result.now (c.get.ensures ∙ ap (λ n. get_or c.self.inside.heaps.list n no_heap) c.from.ensures))
+    ∙ sym c.key.ensures ∙ c.in-Some-key.is) in
     subst (λ n. IsOwnOrder c.args.slot n c.args.self.now.entries)
     (ap (λ (k : Key). k.second) had
-    ∙ ap (λ (k : Key). k.second) (same_some (record { first = c.from.result; second = c.in-Some-key.key.second }) key is)) (own_order kept message)
+    ∙ ap (λ (k : Key). k.second) (same_some (record { first = c.from-2.result; second = c.in-Some-key.key.second }) key is)) (own_order kept message)
 
 pub put-requires-clause-same : goal.put-requires-clause-same
 put-requires-clause-same c =
@@ -67,14 +69,15 @@ returns-clause-changed c =
     let kept = kept_as c.self.view_is c.self.invariant in
     let message = in_table kept c.args.slot c.index.result.now c.in-Some.peer (slot_within kept c.args.slot c.requires) c.index.ensures c.in-Some.is in
     let had : record { first = message.entry.remaining; second = message.entry.order } ≡ c.in-Some-key.key =
-    same_some _ _ (sym (own_key kept message c.index-2.result.now c.index-2.ensures) ∙ sym c.key.ensures ∙ c.in-Some-key.is) in
+    same_some _ _ (sym (own_key kept message c.get.result.now (c.get.ensures ∙ ap (λ n. get_or c.self.inside.heaps.list n no_heap) c.from.ensures))
+    ∙ sym c.key.ensures ∙ c.in-Some-key.is) in
     c.put.ensures.put
     ∙ (λ i. record b {
       entries = placed entry_key
           (record {
             slot = sym message.slot_is i;
             peer = sym message.peer_is i;
-            remaining = c.from.ensures i;
+            remaining = c.from-2.ensures i;
             order = ap (λ (k : Key). k.second) (sym had) i;
           }) (without (sym message.slot_is i) b.entries);
     })

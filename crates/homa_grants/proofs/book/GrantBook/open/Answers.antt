@@ -1,5 +1,5 @@
 -- The book has no messages.
-use Rattle.std.proofs.Common.{◌+◌, ap, refl, sym, subst, arith, rules}
+use Rattle.std.proofs.Common.{◌+◌, ap, refl, sym, subst, rules}
 use Rattle.homa_grants.specs.Books.{Book}
 use Rattle.homa_grants.specs.Heaps.{AreKept}
 use Rattle.homa_grants.proofs.KeptLaws.{kept_view, view_kept}
@@ -8,19 +8,19 @@ use Rattle.homa_grants.proofs.book.GrantBook.open.Goals as goal
 
 -- what is kept at the end
 kept_now : (c : goal.In_ok-vec)
-    → AreKept c.loop.heaps.items c.in_ok-new-2.field-0 c.in_ok-vec.field-0.items
+    → AreKept c.in_ok-open.field-0.list c.in_ok-new.field-0 c.in_ok-vec.field-0.items
     (empty_book (c.args.settings.now.calls + c.args.settings.now.served) c.args.settings.now.hosts c.args.settings.now.overcommit)
 kept_now c =
     let overcommit = c.requires.in_range.2.2.2.2 in
     let table = c.in_ok-vec.ensures.items_if_clones_equal (λ y clone. search rules) in
     let kept =
-    subst (λ t. AreKept c.loop.heaps.items c.in_ok-new-2.field-0 t
+    subst (λ t. AreKept c.in_ok-open.field-0.list c.in_ok-new.field-0 t
     (empty_book c.slots-slots.result c.args.settings.now.hosts c.args.settings.now.overcommit)) (sym table)
-    (kept_empty c.slots-slots.result c.args.settings.now.hosts c.args.settings.now.overcommit c.loop.heaps.items
-    c.in_ok-new-2.field-0 overcommit.0 overcommit.1
-    (omega (arith, c.loop.invariant.0, c.loop-test.false, c.loop.auto)) c.loop.invariant.1
-    (record { cap = c.in_ok-new-2.ensures.cap; list = c.in_ok-new-2.ensures.empty })) in
-    subst (λ n. AreKept c.loop.heaps.items c.in_ok-new-2.field-0 c.in_ok-vec.field-0.items
+    (kept_empty c.slots-slots.result c.args.settings.now.hosts c.args.settings.now.overcommit c.in_ok-open.field-0.list
+    c.in_ok-new.field-0 overcommit.0 overcommit.1
+    c.in_ok-open.ensures.many c.in_ok-open.ensures.empty
+    (record { cap = c.in_ok-new.ensures.cap; list = c.in_ok-new.ensures.empty })) in
+    subst (λ n. AreKept c.in_ok-open.field-0.list c.in_ok-new.field-0 c.in_ok-vec.field-0.items
     (empty_book n c.args.settings.now.hosts c.args.settings.now.overcommit)) c.slots-slots.ensures kept
 
 pub invariant_of-result : goal.invariant_of-result

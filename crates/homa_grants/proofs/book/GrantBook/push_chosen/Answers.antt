@@ -11,14 +11,13 @@ use Rattle.homa_grants.proofs.book.GrantBook.push_chosen.Goals as goal
 pub loop-peer-init : goal.loop-peer-init
 loop-peer-init c = c.requires
 
-pub index-heap-requires : goal.index-heap-requires
-index-heap-requires c =
+pub get-heap-requires : goal.get-heap-requires
+get-heap-requires c =
     let taken = c.as_slice-peer-items.ensures.value ∙ c.first_k.ensures ∙ ap (λ (b : Book). take b.most (list_of c.self.inside.peers)) c.self.view_is in
     omega (
       arith,
       peer_in (kept_as c.self.view_is c.self.invariant) c.as_slice-peer-items.result.now taken c.loop-peer.peer-index
           c.loop-peer-test.true,
-      c.self.inside.heaps.ok.0,
     )
 
 pub push-requires : goal.push-requires
@@ -33,14 +32,14 @@ pub unreachable-requires : goal.unreachable-requires
 unreachable-requires c =
     let taken = c.as_slice-peer-items.ensures.value ∙ c.first_k.ensures ∙ ap (λ (b : Book). take b.most (list_of c.self.inside.peers)) c.self.view_is in
     let first = first_is (kept_as c.self.view_is c.self.invariant) c.as_slice-peer-items.result.now taken c.loop-peer.peer-index c.loop-peer-test.true
-    c.index-heap.result.now c.index-heap.ensures in
+    c.get-heap.result.now c.get-heap.ensures in
     cc (first, c.first.ensures, c.in_default.is)
 
 pub loop-peer-preserved : goal.loop-peer-preserved
 loop-peer-preserved c =
     let taken = c.as_slice-peer-items.ensures.value ∙ c.first_k.ensures ∙ ap (λ (b : Book). take b.most (list_of c.self.inside.peers)) c.self.view_is in
     c.push.ensures.items ∙ told_more (kept_as c.self.view_is c.self.invariant) c.as_slice-peer-items.result.now taken c.loop-peer.peer-index
-    c.loop-peer-test.true c.index-heap.result.now c.index-heap.ensures
+    c.loop-peer-test.true c.get-heap.result.now c.get-heap.ensures
     c.loop-peer.out.items c.in-Some.slot c.in-Some.field-0-1 c.loop-peer.invariant (sym c.first.ensures ∙ c.in-Some.is)
 
 pub returns-clause-chosen : goal.returns-clause-chosen

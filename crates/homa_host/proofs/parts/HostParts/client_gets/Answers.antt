@@ -14,7 +14,6 @@ use Rattle.host_state.specs.Control.{IsAt}
 use Rattle.host_view.specs.Marks.{IsWhole}
 use Rattle.homa_plain.specs.Rules.{Did}
 use Rattle.homa_plain.specs.Steps.{asked, moment}
-use Rattle.host_state.specs.Saying.{IsOutcome, one_of}
 use Rattle.homa_host.specs.Amid.{Amid}
 use Rattle.homa_host.proofs.Begun.{at-amid}
 use Rattle.homa_host.proofs.ClientKept.{client_parts}
@@ -53,10 +52,10 @@ follow_client-requires c =
 pub returns-clause-kept : goal.returns-clause-kept
 returns-clause-kept c =
     let host = c.args.self.now in
-    gets_kept host c.requires.kept (taken (goal.at.returns-clause-kept c).After-receive-did) c.settle_client.new.self c.follow_client.new.books
+    gets_kept host c.requires.kept (taken (goal.at.returns-clause-kept c).After-receive-did) c.settle.new.control c.follow_client.new.books
     (host.order + c.client_orders.result) (ap (λ n. host.order + n) c.client_orders.ensures.order)
-    c.client_change.result c.client_change.ensures c.follow_client.ensures (one_of c.client_outcome-outcome.result.opened)
-    c.settle_client.ensures.sound c.settle_client.ensures.same c.settle_client.ensures.opened c.client_outcome-outcome.ensures.opened
+    c.client_change.result c.client_change.ensures c.follow_client.ensures
+    c.settle.ensures.sound c.settle.ensures.same c.settle.ensures.no_fewer c.settle.ensures.opened
 
 pub returns-clause-step : goal.returns-clause-step
 returns-clause-step c = λ w a amid.
@@ -67,24 +66,24 @@ returns-clause-step c = λ w a amid.
     let did : Did ClientRow = gets host c.requires.kept x w in
     let touched = gets_touched host c.requires.kept x c.touched_version-touched.result (piece_in c.args.packet.now.body c.args.payload.now)
     (λ r. c.touched_version-touched.ensures q c.receive-did.new.pool q.id r c.head_of-head.ensures) in
-    let outcome = subst (λ (x : Did ClientRow). IsOutcome x c.client_outcome-outcome.result) (sym (gets_is host c.requires.kept x w amid.host))
-    (c.client_outcome-outcome.ensures.outcome (moment s q.id w) q (row_at c.receive-did.new.pool c.receive-did.new.self.rows q.id)
-    c.receive-did.new.scratch c.head_of-head.ensures touched) in
-    let settled = subst (λ (id : CallId). IsAt (asked s id c.args.from did w) c.settle_client.new.self c.settle_client.new.out)
-    (c.call-id.ensures ∙ ap (λ (h : HostId). record { client = h; inc = c.args.packet.now.inc; seq = c.args.packet.now.seq }) c.id.ensures)
-    (c.settle_client.ensures.step did w outcome (at-amid w host c.args.out.now amid)) in
-    let after = gets_amid host c.requires.kept x c.settle_client.new.self c.follow_client.new.books (host.order + c.client_orders.result)
+    let id = c.call-id.ensures ∙ ap (λ (h : HostId). record { client = h; inc = c.args.packet.now.inc; seq = c.args.packet.now.seq }) c.id.ensures in
+    let settled : IsAt (asked s q.id c.args.from did w) c.settle.new.control c.settle.new.out =
+    subst (λ (x : CallId × Did ClientRow). IsAt (asked s x.0 c.args.from x.1 w) c.settle.new.control c.settle.new.out)
+    (λ i. (id i, sym (gets_is host c.requires.kept x w amid.host) i))
+    (c.settle.ensures.step (moment s q.id w) q (row_at c.receive-did.new.pool c.receive-did.new.self.rows q.id)
+    c.receive-did.new.scratch w c.head_of-head.ensures touched (at-amid w host c.args.out.now amid)) in
+    let after = gets_amid host c.requires.kept x c.settle.new.control c.follow_client.new.books (host.order + c.client_orders.result)
     (ap (λ n. host.order + n) c.client_orders.ensures.order)
-    c.client_change.result c.client_change.ensures c.follow_client.ensures w c.args.out.now c.settle_client.new.out amid settled in
+    c.client_change.result c.client_change.ensures c.follow_client.ensures w c.args.out.now c.settle.new.out amid settled in
     subst (λ (x : Packet). Amid (asked s x.id x.server (client_gets s (moment s x.id w) x (get w.host.clients x.id)) w)
     (record {
-      control = c.settle_client.new.self;
+      control = c.settle.new.control;
       clients = c.receive-did.new.self;
       servers = host.servers;
       pool = c.receive-did.new.pool;
       books = c.follow_client.new.books;
       order = host.order + c.client_orders.result;
-    }) c.settle_client.new.out)
+    }) c.settle.new.out)
     (is_p host c.requires.kept x) after
 
 pub returns-clause-whole : goal.returns-clause-whole

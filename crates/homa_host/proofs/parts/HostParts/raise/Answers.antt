@@ -36,9 +36,9 @@ granted-requires-clause-part c =
     let a = c.requires.arrives in
     client_may c.args.self.now c.requires.kept c.in-Client.place a.0 (given_client (goal.at.granted-requires-clause-part c).In-Client) c.args.offset a.2 a.3
 
-pub follow_client-requires : goal.follow_client-requires
-follow_client-requires c =
-    let x = given_client (goal.at.follow_client-requires c).In-Client in
+pub client_goes_on-requires : goal.client_goes_on-requires
+client_goes_on-requires c =
+    let x = given_client (goal.at.client_goes_on-requires c).In-Client in
     client.granted_follows c.args.self.now c.requires.kept c.in-Client.place _ x c.args.offset c.last-now.result c.last-now.ensures c.granted.new.self
     c.granted.ensures
 
@@ -46,17 +46,17 @@ pub returns-in-Client-clause-kept : goal.returns-in-Client-clause-kept
 returns-in-Client-clause-kept c =
     let x = given_client (goal.at.returns-in-Client-clause-kept c).In-Client in
     client.granted_kept c.args.self.now c.requires.kept c.in-Client.place _ x c.args.offset c.last-now.result c.last-now.ensures c.granted.new.self
-    c.granted.ensures c.follow_client.new.books c.follow_client.ensures
+    c.granted.ensures c.client_goes_on.new.books c.client_goes_on.ensures
 
 pub returns-in-Client-clause-raised : goal.returns-in-Client-clause-raised
 returns-in-Client-clause-raised c = λ a is.
     let h = c.args.self.now in
-    let new : HostParts = record h { clients = c.granted.new.self; books = c.follow_client.new.books } in
+    let new : HostParts = record h { clients = c.granted.new.self; books = c.client_goes_on.new.books } in
     let x = at_client (goal.at.returns-in-Client-clause-raised c).In-Client a is in
     subst (λ n. IsRaised h new n a c.args.offset Client c.row-facts.result.id c.row-facts.result.peer) (sym c.in-Client.ensures.1)
     (subst (λ (f : RowFacts). IsRaised h new c.in-Client.place a c.args.offset Client f.id f.peer) (sym (c.row-facts.ensures.facts x.id x.row x.stands))
     (client.raised h c.requires.kept c.in-Client.place a x c.args.offset c.last-now.result c.last-now.ensures c.granted.new.self c.granted.ensures
-    c.follow_client.new.books c.follow_client.ensures))
+    c.client_goes_on.new.books c.client_goes_on.ensures))
 
 -- ---- at a server
 
@@ -82,9 +82,9 @@ granted-requires-in-Server-clause-up c =
     let a = c.requires.arrives in
     server_may c.args.self.now c.requires.kept c.args.slot at.in-Server.place at.in-Server.ensures a.0 (given_server at) c.args.offset a.2 a.3
 
-pub follow_server-requires : goal.follow_server-requires
-follow_server-requires c =
-    let at = (goal.at.follow_server-requires c).In-Server in
+pub server_goes_on-requires : goal.server_goes_on-requires
+server_goes_on-requires c =
+    let at = (goal.at.server_goes_on-requires c).In-Server in
     server.granted_follows c.args.self.now c.requires.kept c.args.slot at.in-Server.place at.in-Server.ensures _
     (given_server at) c.args.offset c.last-now.result
     c.last-now.ensures c.granted-in-Server.new.self c.granted-in-Server.ensures
@@ -95,16 +95,16 @@ returns-in-Server-clause-kept c =
     let at = (goal.at.returns-in-Server-clause-kept c).In-Server in
     server.granted_kept c.args.self.now c.requires.kept c.args.slot at.in-Server.place at.in-Server.ensures _ (given_server at) c.args.offset c.last-now.result
     c.last-now.ensures c.granted-in-Server.new.self c.granted-in-Server.ensures
-    c.settings.result.now.calls (calls at) c.follow_server.new.books c.follow_server.ensures
+    c.settings.result.now.calls (calls at) c.server_goes_on.new.books c.server_goes_on.ensures
 
 pub returns-in-Server-clause-raised : goal.returns-in-Server-clause-raised
 returns-in-Server-clause-raised c = λ a is.
     let h = c.args.self.now in
     let at = (goal.at.returns-in-Server-clause-raised c).In-Server in
     let x = at_server at a is in
-    subst (λ (f : RowFacts × HostId). IsRaised h (record h { servers = c.granted-in-Server.new.self; books = c.follow_server.new.books })
+    subst (λ (f : RowFacts × HostId). IsRaised h (record h { servers = c.granted-in-Server.new.self; books = c.server_goes_on.new.books })
     c.args.slot a c.args.offset Server f.0.id f.1)
     (λ i. (sym (c.row-facts-in-Server.ensures.facts x.id x.row x.stands) i, sym c.id.ensures i))
     (server.raised h c.requires.kept c.args.slot at.in-Server.place at.in-Server.ensures a x c.args.offset c.last-now.result c.last-now.ensures
     c.granted-in-Server.new.self c.granted-in-Server.ensures
-    c.settings.result.now.calls (calls at) c.follow_server.new.books c.follow_server.ensures)
+    c.settings.result.now.calls (calls at) c.server_goes_on.new.books c.server_goes_on.ensures)

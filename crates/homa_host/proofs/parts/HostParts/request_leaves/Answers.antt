@@ -107,8 +107,8 @@ spend-requires c =
     let x = left (goal.at.spend-requires c).After-emit (Sent c.in-Sent.from c.in-Sent.to) c.in-Sent.is in
     omega (arith, x.affordable.paid, c.credit-credit.ensures)
 
-pub follow_client-requires : goal.follow_client-requires
-follow_client-requires c = follows (goal.at.follow_client-requires c).After-emit c.in-Sent.is c.spend.new.self c.spend.ensures.spent
+pub client_goes_on-requires : goal.client_goes_on-requires
+client_goes_on-requires c = follows (goal.at.client_goes_on-requires c).After-emit c.in-Sent.is c.spend.new.self c.spend.ensures.spent
 
 pub returns-in-Rests-clause-kept : goal.returns-in-Rests-clause-kept
 returns-in-Rests-clause-kept c =
@@ -135,7 +135,7 @@ returns-in-Some-clause-kept c =
     let h = c.args.self.now in
     let x = left (goal.at.returns-in-Some-clause-kept c).After-emit (Sent c.in-Sent.from c.in-Sent.to) c.in-Sent.is in
     sent_kept h c.requires.kept c.args.place x.next c.in-Sent.from c.in-Sent.to c.emit.new.self x.emitted c.spend.new.self c.spend.ensures.spent
-    c.follow_client.new.books c.follow_client.ensures
+    c.client_goes_on.new.books c.client_goes_on.ensures
     c.send_request.new.self c.send_request.ensures.sound (beside_sent h.control c.send_request.new.self c.send_request.ensures.same)
 
 pub returns-in-Some-clause-pumped : goal.returns-in-Some-clause-pumped
@@ -156,7 +156,7 @@ returns-in-Some-clause-pumped c =
     (c.send_request.ensures.step w row at (sym (ap (λ (f : RowFacts). f.peer) x.facts)) (sym request) (sym (ap (λ m. m.length) message))
     (sym (ap (λ m. m.prio) message)) (sym (ap (λ m. m.service) message))) in
     sent_step h c.requires.kept c.args.place n c.in-Sent.from c.in-Sent.to c.emit.new.self x.emitted c.spend.new.self c.spend.ensures.spent
-    c.follow_client.new.books c.follow_client.ensures
+    c.client_goes_on.new.books c.client_goes_on.ensures
     c.args.out.now c.send_request.new.self c.send_request.new.out posted c.send_request.ensures.frames c.send_request.ensures.marks
 
 pub unreachable-requires : goal.unreachable-requires

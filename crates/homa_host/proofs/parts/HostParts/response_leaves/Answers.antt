@@ -144,8 +144,8 @@ spend-requires c =
     let x = left (goal.at.spend-requires c).After-emit (Sent c.in-Sent.from c.in-Sent.to) c.in-Sent.is in
     omega (arith, x.affordable.paid, c.credit-credit.ensures)
 
-pub follow_server-requires : goal.follow_server-requires
-follow_server-requires c = follows (goal.at.follow_server-requires c).After-emit c.in-Sent.is c.spend.new.self c.spend.ensures.spent
+pub server_goes_on-requires : goal.server_goes_on-requires
+server_goes_on-requires c = follows (goal.at.server_goes_on-requires c).After-emit c.in-Sent.is c.spend.new.self c.spend.ensures.spent
 
 -- the pacer is told that the message rests
 rests : (c : After-emit) (pacer : Pace)
@@ -182,7 +182,7 @@ returns-in-Some-response-clause-kept c =
     let h = c.args.self.now in
     let x = left (goal.at.returns-in-Some-response-clause-kept c).After-emit (Sent c.in-Sent.from c.in-Sent.to) c.in-Sent.is in
     sent_kept h c.requires.kept c.args.place x.next c.in-Sent.from c.in-Sent.to c.emit.new.self x.emitted c.settings.result.now.calls c.spend.new.self
-    x.calls c.spend.ensures.spent c.follow_server.new.books c.follow_server.ensures
+    x.calls c.spend.ensures.spent c.server_goes_on.new.books c.server_goes_on.ensures
     c.send_response.new.self c.send_response.ensures.sound
     (subst (Beside h.control) (sym c.send_response.ensures.same) (record { settings = refl; id = refl; inc = refl; last = refl; opened = refl }))
 
@@ -209,5 +209,5 @@ returns-in-Some-response-clause-pumped c =
     (λ i. ((x.facts i).id, response i))
     (c.send_response.ensures.step w row a.out at (sym (ap (λ (m : OutFacts). m.length) message)) (sym (ap (λ (m : OutFacts). m.prio) message))) in
     sent_step h c.requires.kept c.args.place x.next c.in-Sent.from c.in-Sent.to c.emit.new.self x.emitted c.settings.result.now.calls c.spend.new.self
-    x.calls c.spend.ensures.spent c.follow_server.new.books c.follow_server.ensures
+    x.calls c.spend.ensures.spent c.server_goes_on.new.books c.server_goes_on.ensures
     c.args.out.now c.send_response.new.self c.send_response.new.out posted c.send_response.ensures.frames c.send_response.ensures.marks

@@ -1,14 +1,16 @@
 -- A packet of a client comes to a call's server.
-use Rattle.std.proofs.Common.{Result, Ok, Err, OnErr, ◌≡◌, ◌∙◌, ◌+◌, refl, sym, subst, ap, arith, ℕ}
+use Rattle.std.proofs.Common.{Result, Ok, Err, OnErr, ◌≡◌, ◌∙◌, ◌+◌, refl, sym, subst, ap, arith, true, List, ℕ}
 use Rattle.homa_plain.specs.declared.settings.Settings.{Settings}
-use Rattle.host_state.specs.Control.{IsAt}
-use Rattle.host_state.specs.Saying.{one_of, IsOutcome}
+use Rattle.host_state.specs.Control.{Control, IsAt}
+use Rattle.host_view.specs.declared.outbox.SentFrame.{SentFrame}
 use Rattle.homa_plain.specs.declared.id.CallId.{CallId}
 use Rattle.homa_host.specs.Parts.{host_of, IsKept}
 use Rattle.homa_host.specs.Outcomes.{server_change}
 use Rattle.homa_host.specs.ServerFollow.{FollowedServer}
 use Rattle.homa_host.specs.declared.outcome.Change.{Change}
 use Rattle.homa_host.specs.declared.parts.HostParts.{HostParts}
+use Rattle.homa_host.specs.Settled.{SettledServer, is_quiet}
+use Rattle.homa_host.proofs.Quiet.{quiet_settled}
 use Rattle.homa_host.proofs.ServerKept.{server_parts}
 use Rattle.homa_host.proofs.ServerHeard.{heard_work, heard_by}
 use Rattle.homa_host.proofs.ServerTold.{HasSettled, q, rule, rule_is, settled_by, served_asks}
@@ -26,7 +28,7 @@ use Rattle.homa_host.proofs.Begun.{at-amid}
 use Rattle.homa_host.proofs.ServerGets.{HasTaken, taken_by, touched_stays, gets_stands, gets_follows, gets_kept, gets_touched, gets_then, heard_host, row_now}
 use Rattle.homa_host.proofs.parts.HostParts.server_gets.Given as given
 use Rattle.homa_host.proofs.parts.HostParts.server_gets.Goals as goal
-use Rattle.homa_host.proofs.parts.HostParts.server_gets.Goals.{After-settings-settings, After-follow_server, After-settle_server}
+use Rattle.homa_host.proofs.parts.HostParts.server_gets.Goals.{After-settings-settings, After-follow_server, After-service_of-number}
 
 -- what is so once the host heard the packet, which its table had taken up
 taken : (g : given.Over) (c : After-settings-settings g)
@@ -47,23 +49,28 @@ followed : (g : given.Over) (c : After-follow_server g)
 followed g c = subst (λ (t : Change × ℕ). FollowedServer c.receive.new.self t.1 t.0 c.args.self.now.books c.follow_server.new.books)
     (λ i. (c.server_change-change.ensures i, ap (λ (s : Settings). s.calls) c.settings-settings.ensures.settings i)) c.follow_server.ensures
 
+-- the control and the frames after it
+abbrev Settles : (g : given.Over) → After-service_of-number g → Control → List SentFrame → Type 0
+Settles g c control out = SettledServer c.call-id.result c.in_ok-did.did c.service_of-number.result c.head_of-head.result c.touched_version-touched.result
+    c.hear.new.self c.args.lent.now.out.now control out
+
 -- what came of the packet
-settled : (g : given.Over) (c : After-settle_server g)
+settled : (g : given.Over) (c : After-service_of-number g) (control : Control) (out : List SentFrame) → Settles g c control out
     → HasTaken c.args.self.now c.args.from c.args.packet.now c.args.payload.now c.args.now c.hear.new.self c.receive.new.self c.receive.new.pool
     c.receive.new.scratch (g.V.Service.allows c.args.lent.now.service.now (g.V.Service.served c.args.lent.now.service.now)) c.in_ok-did.did
     → FollowedServer c.receive.new.self c.hear.new.self.settings.calls (server_change c.in_ok-did.did) c.args.self.now.books c.follow_server.new.books
     → HasSettled c.args.self.now c.args.from c.args.packet.now c.args.payload.now c.args.now
     (record {
-      control = c.settle_server.new.self;
+      control = control;
       clients = c.args.self.now.clients;
       servers = c.receive.new.self;
       pool = c.receive.new.pool;
       books = c.follow_server.new.books;
       order = c.args.self.now.order + c.server_orders.result;
     })
-    c.settle_server.new.out c.receive.new.scratch (g.V.Service.allows c.args.lent.now.service.now (g.V.Service.served c.args.lent.now.service.now))
+    out c.receive.new.scratch (g.V.Service.allows c.args.lent.now.service.now (g.V.Service.served c.args.lent.now.service.now))
     c.in_ok-did.did
-settled g c x follows =
+settled g c control out st x follows =
     let host = c.args.self.now in
     let heard : HostParts = record host { control = c.hear.new.self } in
     let s = c.hear.new.self.settings in
@@ -72,18 +79,41 @@ settled g c x follows =
     let row = row_now heard x.heard.kept x.taken in
     let touched = gets_touched heard x.heard.kept x.taken c.touched_version-touched.result (piece_in packet.body packet.payload)
     (λ r. c.touched_version-touched.ensures packet c.receive.new.pool packet.id r c.head_of-head.ensures) in
-    settled_by host x c.settle_server.new.self c.settle_server.new.out c.follow_server.new.books (host.order + c.server_orders.result)
+    settled_by host x control out c.follow_server.new.books (host.order + c.server_orders.result)
     (ap (λ n. host.order + n) c.server_orders.ensures.order) follows (λ a reply.
     let is : rule host x a ≡ served_of s (moment s packet.id w) c.call-id.result (piece_in packet.body packet.payload) row c.receive.new.scratch a
     c.in_ok-did.did = rule_is host x a reply ∙ ap (λ (id : CallId). served_of s (moment s packet.id w) id (piece_in packet.body packet.payload) row
     c.receive.new.scratch a c.in_ok-did.did) (sym c.call-id.ensures) in
-    subst (λ (id : CallId). IsAt (served s id (rule host x a) w) c.settle_server.new.self c.settle_server.new.out) c.call-id.ensures
-    (c.settle_server.ensures.step (rule host x a) w
-    (subst (λ (d : Did ServerRow). IsOutcome d c.server_outcome-outcome.result) (sym is)
-    (c.server_outcome-outcome.ensures.outcome s (moment s packet.id w) packet row c.receive.new.scratch a c.head_of-head.ensures
-    (sym (ap (λ (s : Settings). s.served) c.settings-settings.ensures.settings)) (c.service_of-number.ensures packet.payload) touched
-    (sym c.call-id.ensures)))
-    (at-amid w heard c.args.lent.now.out.now (subst (λ frames. Amid w heard frames) (sym c.requires.begins.out) x.heard.amid))))
+    subst (λ (id : CallId). IsAt (served s id (rule host x a) w) control out) c.call-id.ensures
+    (subst (λ (d : Did ServerRow). IsAt (served s c.call-id.result d w) control out) (sym is)
+    (st.step (moment s packet.id w) packet row c.receive.new.scratch a w c.head_of-head.ensures
+    (c.service_of-number.ensures packet.payload) touched (sym c.call-id.ensures)
+    (at-amid w heard c.args.lent.now.out.now (subst (λ frames. Amid w heard frames) (sym c.requires.begins.out) x.heard.amid)))))
+
+-- all holds then
+settled_kept : (g : given.Over) (c : After-service_of-number g) (control : Control) (out : List SentFrame) → Settles g c control out
+    → HasTaken c.args.self.now c.args.from c.args.packet.now c.args.payload.now c.args.now c.hear.new.self c.receive.new.self c.receive.new.pool
+    c.receive.new.scratch (g.V.Service.allows c.args.lent.now.service.now (g.V.Service.served c.args.lent.now.service.now)) c.in_ok-did.did
+    → FollowedServer c.receive.new.self c.hear.new.self.settings.calls (server_change c.in_ok-did.did) c.args.self.now.books c.follow_server.new.books
+    → IsKept
+    (record {
+      control = control;
+      clients = c.args.self.now.clients;
+      servers = c.receive.new.self;
+      pool = c.receive.new.pool;
+      books = c.follow_server.new.books;
+      order = c.args.self.now.order + c.server_orders.result;
+    })
+settled_kept g c control out st x follows =
+    let host = c.args.self.now in
+    gets_kept (record host { control = c.hear.new.self }) x.heard.kept x.taken control c.follow_server.new.books
+    (host.order + c.server_orders.result) (ap (λ n. host.order + n) c.server_orders.ensures.order) follows st.sound st.same st.no_fewer st.opened
+
+-- nothing is settled where nothing comes of the packet
+quiet : (g : given.Over) (c : After-service_of-number g) → is_quiet c.in_ok-did.did c.touched_version-touched.result ≡ true
+    → Settles g c c.hear.new.self c.args.lent.now.out.now
+quiet g c e = quiet_settled c.call-id.result c.in_ok-did.did c.service_of-number.result c.head_of-head.result c.touched_version-touched.result
+    c.hear.new.self c.args.lent.now.out.now c.settings-settings.ensures.sound e
 
 err_any : {A E : Type 0} (r : Result A E) (P : Type 0) → P → OnErr r P
 err_any (Ok x) P h = tt
@@ -146,26 +176,41 @@ follow_server-requires g c =
     gets_follows (record c.args.self.now { control = c.hear.new.self }) x.heard.kept x.taken c.settings-settings.result.now.calls
     c.server_change-change.result (ap (λ (s : Settings). s.calls) c.settings-settings.ensures.settings) c.server_change-change.ensures
 
+pub returns-then-is_quiet-clause-kept : goal.returns-then-is_quiet-clause-kept
+returns-then-is_quiet-clause-kept g c =
+    let at = goal.at.returns-then-is_quiet-clause-kept g c in
+    settled_kept g at.After-service_of-number _ _ (quiet g at.After-service_of-number (sym c.is_quiet.ensures ∙ c.if-is_quiet.true))
+    (taken g at.After-settings-settings) (followed g at.After-follow_server)
+
+pub returns-then-is_quiet-clause-step : goal.returns-then-is_quiet-clause-step
+returns-then-is_quiet-clause-step g c =
+    let at = goal.at.returns-then-is_quiet-clause-step g c in
+    let x = settled g at.After-service_of-number _ _ (quiet g at.After-service_of-number (sym c.is_quiet.ensures ∙ c.if-is_quiet.true))
+    (taken g at.After-settings-settings) (followed g at.After-follow_server) in
+    x.step
+
+pub returns-then-is_quiet-clause-served : goal.returns-then-is_quiet-clause-served
+returns-then-is_quiet-clause-served g c =
+    let at = goal.at.returns-then-is_quiet-clause-served g c in
+    let x = settled g at.After-service_of-number _ _ (quiet g at.After-service_of-number (sym c.is_quiet.ensures ∙ c.if-is_quiet.true))
+    (taken g at.After-settings-settings) (followed g at.After-follow_server) in
+    record { counted = rw x.ran c.in_ok-did.ensures.served; answered = x.answered; allowed = x.allowed }
+
 pub returns-clause-kept : goal.returns-clause-kept
 returns-clause-kept g c =
-    let host = c.args.self.now in
-    let x = taken g (goal.at.returns-clause-kept g c).After-settings-settings in
-    gets_kept (record host { control = c.hear.new.self }) x.heard.kept x.taken c.settle_server.new.self c.follow_server.new.books
-    (host.order + c.server_orders.result) (ap (λ n. host.order + n) c.server_orders.ensures.order)
-    (followed g (goal.at.returns-clause-kept g c).After-follow_server)
-    (one_of c.server_outcome-outcome.result.opened) c.settle_server.ensures.sound c.settle_server.ensures.same c.settle_server.ensures.opened
-    c.server_outcome-outcome.ensures.opened
+    let at = goal.at.returns-clause-kept g c in
+    settled_kept g at.After-service_of-number _ _ (c.settle.ensures) (taken g at.After-settings-settings) (followed g at.After-follow_server)
 
 pub returns-clause-step : goal.returns-clause-step
 returns-clause-step g c =
     let at = goal.at.returns-clause-step g c in
-    let x = settled g at.After-settle_server (taken g at.After-settings-settings) (followed g at.After-follow_server) in
+    let x = settled g at.After-service_of-number _ _ (c.settle.ensures) (taken g at.After-settings-settings) (followed g at.After-follow_server) in
     x.step
 
 pub returns-clause-served : goal.returns-clause-served
 returns-clause-served g c =
     let at = goal.at.returns-clause-served g c in
-    let x = settled g at.After-settle_server (taken g at.After-settings-settings) (followed g at.After-follow_server) in
+    let x = settled g at.After-service_of-number _ _ (c.settle.ensures) (taken g at.After-settings-settings) (followed g at.After-follow_server) in
     record { counted = rw x.ran c.in_ok-did.ensures.served; answered = x.answered; allowed = x.allowed }
 
 pub returns-clause-lent : goal.returns-clause-lent

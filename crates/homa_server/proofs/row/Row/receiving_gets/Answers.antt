@@ -1,4 +1,4 @@
-use Rattle.std.proofs.Common.{◌≡◌, Bool, true, false, sym}
+use Rattle.std.proofs.Common.{◌≡◌, Bool, true, sym}
 use Rattle.std.proofs.lemmas.Bool.{true≢false}
 use Rattle.homa_plain.specs.declared.packet.Body.{Body}
 use Rattle.homa_plain.specs.declared.packet.Body.TheVariants as body

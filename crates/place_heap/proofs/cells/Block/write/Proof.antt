@@ -1,10 +1,10 @@
 -- `write` puts a value into one cell of the block. Assumes `Logic`.
-use Rattle.place_heap.proofs.Walks.{◌≡◌, ℕ, ◌+◌, ◌*◌, ◌≤◌, ◌<◌, ◌^◌, List, [], ◌∷◌, refl, sym, ◌∙◌, length, set, get_or, length-set, w64, arith, Some}
+use Rattle.place_heap.proofs.Walks.{◌≡◌, ℕ, ◌+◌, ◌*◌, ◌≤◌, ◌<◌, ◌^◌, List, [], ◌∷◌, refl, sym, length, set, get_or, w64, arith, Some}
 use Rattle.place_heap.proofs.Walks.{None, proved, full_share, id⊢, ftrue, fat, flft, named, Val, vunit, fact, tables, ‵, raw, ◌⊛◌, at_ret, ◌$◌, ◌∵◌}
 use Rattle.place_heap.proofs.Walks.{ !, qed, done, move, keep, drop, use1, use2, split, join, fsplit, fsplit3, fjoin, fjoin3, feq_i, rewrite, suffices}
 use Rattle.place_heap.proofs.Walks.{frame, whole, sub, enter, of_opd, lit, unit_lit, bin, init, stop, fld, assigns_last, first, blocks, exec, returns}
 use Rattle.place_heap.proofs.Walks.{alloc_all, pass_all, free_all, look_at, get, get_in, through, sets, take_at, give_at, env, usize, yes, lone, owns}
-use Rattle.place_heap.proofs.Walks.{uint_vals, uint_Tells, Ptr, block_ptr, in_a_block, MutRef, mut_vals, mut_Tells, plain, nothing, opens, closes}
+use Rattle.place_heap.proofs.Walks.{uint_vals, uint_Tells, Ptr, in_a_block, MutRef, mut_vals, mut_Tells, plain, nothing, opens, closes}
 use Rattle.place_heap.proofs.Walks.{heard, Stays, walk_of, says, stay_dropped, Goes-dropped, stay_ref, Goes-ref, ends_at, after}
 use Rattle.place_heap.specs.contracts.cells.Block.write as f
 use Rattle.place_heap.proofs.cells.Block.write.Statement.{statement}
@@ -14,8 +14,9 @@ use Rattle.place_heap.specs.contracts.cells.Base.{the_row as B}
 use Rattle.place_heap.specs.contracts.cells.Cell.{the_row as C}
 use Rattle.place_heap.proofs.cells.Base.TheLaws as BL
 use Rattle.place_heap.proofs.cells.Cell.TheLaws as CL
-use Rattle.place_heap.specs.Ownership.{place, places, block_owns, block_ty, may_free}
-use Rattle.place_heap.proofs.Memory.{cell_ty, others, emptied, cell_out, cell_in}
+use Rattle.place_heap.specs.Ownership.{place, places, block_owns, cells_at}
+use Rattle.place_heap.specs.Cells.{IsNear}
+use Rattle.place_heap.proofs.Memory.{cell_ty, product_small, by_index, others, emptied, cell_out, cell_in}
 use base.Fml.{froom}
 use borrow.Table.OneValue.{part_in}
 
@@ -39,36 +40,46 @@ write_spec 𝓤 𝓛 𝓜 𝓡 wired =
     (λ κs. (mut_vals, ((λ x. BL.lowered x ∷ []), (uint_vals w64, ((λ x. CL.lowered x ∷ []), tt)))))
     (λ κs. (mut_Tells (named 0) κs.0 R, (BL.lowers.val_is, (uint_Tells w64, (CL.lowers.val_is, tt)))))
     (λ κs qs bounds a g are.
-    let b = a.0.ref_ptr.0 in let o = a.0.ref_ptr.1 in let h = a.0.now in let base = a.1.0 in let i : ℕ = a.1.1.0 in let x = a.1.1.1.0 in let v = CL.lowered x in
+    let b = a.0.ref_ptr.0 in let o = a.0.ref_ptr.1 in let h =
+    a.0.now in let base = a.1.0 in let k : ℕ = base.first in let s : ℕ = base.stride in let i : ℕ = a.1.1.0 in let x = a.1.1.1.0 in let v = CL.lowered x in
     let vs : List Val × (List Val × (List Val × (List Val × Unit {0}))) = (mut_vals a.0, (BL.lowered base ∷ [], (uint_vals w64 i, (v ∷ [], tt)))) in
     let y : W.Ghost = ((κs, qs, bounds, a, vs), tt) in
     let good = ((CL.the_row_laws.lawful 𝓛).typed x (v ∷ []) are.1.1.1.0).0 in
     let new : R.Denot = record h { slots = set h.slots i (Some x) } in
     qed 𝓛 (((‵ (flft κs.0 qs.0) ⊛ ‵ ftrue) ⊛ ‵ (owns (MutRef (named 0) κs.0 R ∷ B ∷ usize ∷ C ∷ []) a vs)) ∷ raw
-    (fact 𝓤 ((base.ptr ≡ h.at) × (i < length h.slots) × (length h.slots ≤ 8192))) ∷ []) ∵
+    (fact 𝓤 ((base ≡ h.base) × IsNear base × (i < length h.slots) × (length h.slots ≤ 8192))) ∷ []) ∵
     move ! (1 ∷ []) $ heard ! _ (λ asked.
     split ! $ split ! $ move ! (2 ∷ []) $ fsplit ! $ move ! (1 ∷ []) $ fsplit ! $ drop ! $ fsplit ! $ drop ! $ fsplit ! $ keep ! (2 ∷ 3 ∷ 0 ∷ []) $
     -- [self; the token; what the cell owns]
     enter ! _ _ _ _ _ $ alloc_all !
     (λ l. pass_all ! refl ((tt, tt), (((BL.the_row_laws.lawful 𝓛).typed base _ are.1.0).0, ((tt, record { fits = are.1.1.0.1 }), (good, tt)))) $
     fsplit3 ! $ move ! (1 ∷ 2 ∷ 3 ∷ []) $ opens ! tt R b o (λ us. move ! (1 ∷ []) $ fsplit ! $ move ! (1 ∷ []) $
-    in_a_block ! h.at (λ p. block_owns p h.slots) (id⊢ 𝓤 _) (λ b' o' e. fsplit ! $
-    let far : i * 24 < 2 ^ 64 = omega arith in
-    take_at ! 2 $ rewrite ! 0 (λ (p : Ptr). ‵ (fat full_share (lone B.mir) (l 2) 0 (BL.lowered (record { ptr = p })))) (asked.0 ∙ e) refl $ give_at ! 2 $
-    first ! $ blocks ! $
+    rewrite ! 0 (λ (d : B.Denot). ‵ (block_owns d h.slots)) (sym asked.0) refl $
+    in_a_block ! base.ptr (λ p. cells_at p k s h.slots) (id⊢ 𝓤 _) (λ b' o' e.
+    let small = product_small i s 8192 32 (omega (arith, asked.2, asked.3)) asked.1.stride in
+    let skipped : i * s < 2 ^ 64 = omega (arith, small) in
+    let index : i * s + k < 2 ^ 64 = omega (arith, small, asked.1.first) in
+    let far : (i * s + k) * 24 < 2 ^ 64 = omega (arith, small, asked.1.first) in
+    take_at ! 2 $ rewrite ! 0 (λ (p : Ptr). ‵ (fat full_share (lone B.mir) (l 2) 0 (BL.lowered (record { ptr = p; first = k; stride = s })))) e refl $
+    give_at ! 2 $ first ! $ blocks ! $
+    sets ! (bin ! (get ! refl) (get_in ! (fld ! refl (stop !)) (sub ! 2 refl (whole !))) (record { fits = skipped })) refl (tt, record { fits = skipped }) $
+    sets ! (bin ! (get ! refl) (get_in ! (fld ! refl (stop !)) (sub ! 1 refl (whole !))) (record { fits = index })) refl (tt, record { fits = index }) $
     sets ! (bin ! (get ! refl) (lit ! tt) (record { fits = far })) refl (tt, record { fits = far }) $
     sets ! (bin ! (get_in ! (fld ! refl (stop !)) (sub ! 0 refl (whole !))) (get ! refl) tt) refl (tt, tt) $
-    use1 𝓛 (‵ (place b' (i * 24 + o') (get_or h.slots i None)) ⊛ ‵ (others b' o' h.slots i)) (cell_out 𝓛 b' o' h.slots i asked.1) $ split ! $
-    use1 𝓛 (‵ (froom cell_ty b' (i * 24 + o'))) (emptied 𝓛 b' (i * 24 + o') (get_or h.slots i None)) $
-    -- [room for the cell; the others; the right to free; no fields; self's cell; the open borrow, in three; self's first part; what the cell owns]
+    use1 𝓛 (‵ (place b' (i * s * 24 + (k * 24 + o')) (get_or h.slots i None)) ⊛ ‵ (others b' (k * 24 + o') s h.slots i))
+    (cell_out 𝓛 b' (k * 24 + o') s h.slots i asked.2) $ split ! $
+    rewrite ! 0 (λ (n : ℕ). ‵ (place b' n (get_or h.slots i None))) (by_index i s k o') refl $
+    use1 𝓛 (‵ (froom cell_ty b' ((i * s + k) * 24 + o'))) (emptied 𝓛 b' ((i * s + k) * 24 + o') (get_or h.slots i None)) $
+    -- [room for the cell; the others; no fields; self's cell; the open borrow, in three; self's first part; what the cell owns]
     assigns_last ! (of_opd ! (get ! refl)) (through ! refl (stop !)) (init ! 0 refl good) $
     exec ! 𝓣.C 𝓣.Λ (env code.Mir.locals l) (after 1 (code.function).body) (at_ret _ (W.post y)) $
     sets ! (of_opd ! (unit_lit !)) refl (tt, tt) $
-    move ! (0 ∷ 9 ∷ []) $ use2 𝓛 (‵ (place b' (i * 24 + o') (Some x))) (part_in 𝓛 C refl full_share x b' (i * 24 + o') v) $
-    use2 𝓛 (‵ (places b' o' new.slots)) (cell_in 𝓛 b' o' h.slots i asked.1 (Some x)) $
-    rewrite ! 1 (λ (n : ℕ). ‵ (may_free (block_ty n) (block_ptr b' o'))) (sym (length-set h.slots i (Some x))) refl $ fjoin ! $
-    rewrite ! 0 (λ (p : Ptr). ‵ (block_owns p new.slots)) (sym e) refl $ move ! (1 ∷ 0 ∷ []) $ fjoin ! $ move ! (1 ∷ 0 ∷ []) $ closes ! tt R new us b o $
+    move ! (0 ∷ 8 ∷ []) $ use2 𝓛 (‵ (place b' ((i * s + k) * 24 + o') (Some x))) (part_in 𝓛 C refl full_share x b' ((i * s + k) * 24 + o') v) $
+    rewrite ! 0 (λ (n : ℕ). ‵ (place b' n (Some x))) (sym (by_index i s k o')) refl $
+    use2 𝓛 (‵ (places b' (k * 24 + o') s new.slots)) (cell_in 𝓛 b' (k * 24 + o') s h.slots i asked.2 (Some x)) $
+    rewrite ! 0 (λ (p : Ptr). ‵ (cells_at p k s new.slots)) (sym e) refl $
+    rewrite ! 0 (λ (d : B.Denot). ‵ (block_owns d new.slots)) asked.0 refl $ move ! (1 ∷ 0 ∷ []) $ fjoin ! $ move ! (1 ∷ 0 ∷ []) $ closes ! tt R new us b o $
     returns ! (look_at ! 0 refl) $ free_all ! refl $ move ! (3 ∷ []) $
-    suffices ! _ (ends_at 𝓛 f.ended stayed c y vunit tt (new, (tt, (tt, (tt, tt)))) (tt, (tt, (tt, (tt, tt))))) $ says ! (refl, refl) $
+    suffices ! _ (ends_at 𝓛 f.ended stayed c y vunit tt (new, (tt, (tt, (tt, tt)))) (tt, (tt, (tt, (tt, tt))))) $ says ! refl $
     feq_i ! _ (vunit ∷ []) _ refl $ move ! (4 ∷ []) $ nothing ! $ move ! (1 ∷ 0 ∷ []) $ join ! $ frame ! $ move ! (1 ∷ 2 ∷ 3 ∷ []) $ fjoin3 ! $
     nothing ! $ nothing ! $ fjoin ! $ nothing ! $ fjoin ! $ nothing ! $ fjoin ! $ move ! (1 ∷ 0 ∷ []) $ fjoin ! $ done !)))))

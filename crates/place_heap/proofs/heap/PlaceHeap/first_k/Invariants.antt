@@ -7,7 +7,7 @@ abbrev pub invariant-pops : goal.invariant-pops
 invariant-pops g l = record {
   few : length l.out.items ≤ l.k;
   room : length l.front.items ≤ length l.out.items + 1;
-  state : (popped : ℕ → Bool) × IsFront (items_of l.self-inside.cells) l.self-inside.len l.front.items l.out.items popped;
+  state : (popped : ℕ → Bool) × IsFront (items_of l.self-inside.cells.list) l.self-inside.len l.front.items l.out.items popped;
   cost : l.steps ≤ l.fn.steps + 1 + 2 * length l.out.items;
 }
 

@@ -7,8 +7,8 @@ use Rattle.place_heap.proofs.heap.PlaceHeap.has.Goals as goal
 
 pub returns-clause-present : goal.returns-clause-present
 returns-clause-present g c =
-    let inside : c.args.slot < length c.self.inside.cells = subst (λ (h : Held). c.args.slot < length h.cells) (sym c.self.view_is) c.requires in
-    let place = slice_index (places_of c.self.inside.cells) c.args.slot in
+    let inside : c.args.slot < length c.self.inside.cells.list = subst (λ (h : Held). c.args.slot < length h.cells) (sym c.self.view_is) c.requires in
+    let place = slice_index (places_of c.self.inside.cells.list) c.args.slot in
     rw c.place_of.ensures.place
     (subst (λ (h : Held). IsTrue (nat_lt place c.self.inside.len) ↔ IsSome (key_in c.args.slot (list_of h))) c.self.view_is
-    (is_present c.self.inside.cells c.self.inside.len c.self.invariant c.args.slot inside))
+    (is_present c.self.inside.cells.list c.self.inside.len c.self.invariant c.args.slot inside))

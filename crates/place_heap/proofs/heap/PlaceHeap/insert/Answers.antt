@@ -8,31 +8,32 @@ use Rattle.place_heap.proofs.heap.PlaceHeap.insert.Goals as goal
 
 pub place_item-requires-clause-place : goal.place_item-requires-clause-place
 place_item-requires-clause-place g c =
-    let inside : c.args.slot < length c.self.inside.cells = subst (λ (h : Held). c.args.slot < length h.cells) (sym c.self.view_is) c.requires.slot in
+    let inside : c.args.slot < length c.self.inside.cells.list = subst (λ (h : Held). c.args.slot < length h.cells) (sym c.self.view_is) c.requires.slot in
     let none = ap (λ h. key_in c.args.slot (list_of h)) c.self.view_is ∙ c.requires.absent in
-    room_for c.self.inside.cells c.self.inside.len c.self.invariant c.args.slot inside none
+    room_for c.self.inside.cells.list c.self.inside.len c.self.invariant c.args.slot inside none
 
 pub sift_up-requires : goal.sift_up-requires
 sift_up-requires g c =
-    let cells = c.self.inside.cells in let len = c.self.inside.len in let x : Item = (c.args.slot, c.args.key) in
+    let cells = c.self.inside.cells.list in let len = c.self.inside.len in let x : Item = (c.args.slot, c.args.key) in
     let inside : c.args.slot < length cells = subst (λ (h : Held). c.args.slot < length h.cells) (sym c.self.view_is) c.requires.slot in
     let none = absent_in cells len c.self.invariant c.args.slot inside (ap (λ h. key_in c.args.slot (list_of h)) c.self.view_is ∙ c.requires.absent) in
-    put_behind cells c.place_item.new.cells len x c.self.invariant inside none c.place_item.ensures.items c.place_item.ensures.places c.place_item.ensures.len
+    put_behind cells c.place_item.new.cells.list len x c.self.invariant inside none c.place_item.ensures.items c.place_item.ensures.places
+    c.place_item.ensures.len
 
 pub invariant_of-self : goal.invariant_of-self
 invariant_of-self g c =
-    let inside : c.args.slot < length c.self.inside.cells = subst (λ (h : Held). c.args.slot < length h.cells) (sym c.self.view_is) c.requires.slot in
-    let room = room_for c.self.inside.cells c.self.inside.len c.self.invariant c.args.slot inside
+    let inside : c.args.slot < length c.self.inside.cells.list = subst (λ (h : Held). c.args.slot < length h.cells) (sym c.self.view_is) c.requires.slot in
+    let room = room_for c.self.inside.cells.list c.self.inside.len c.self.invariant c.args.slot inside
     (ap (λ h. key_in c.args.slot (list_of h)) c.self.view_is ∙ c.requires.absent) in
-    kept_again c.place_item.new.cells c.sift_up.new.cells (c.self.inside.len + 1) (omega (arith, c.self.invariant.small, c.place_item.ensures.len))
+    kept_again c.place_item.new.cells.list c.sift_up.new.cells.list (c.self.inside.len + 1) (omega (arith, c.self.invariant.small, c.place_item.ensures.len))
     (omega (arith, room, c.place_item.ensures.len)) c.sift_up.ensures.sifted
 
 pub returns-clause-list : goal.returns-clause-list
 returns-clause-list g c =
-    let cells = c.self.inside.cells in let len = c.self.inside.len in let x : Item = (c.args.slot, c.args.key) in
+    let cells = c.self.inside.cells.list in let len = c.self.inside.len in let x : Item = (c.args.slot, c.args.key) in
     let inside : c.args.slot < length cells = subst (λ (h : Held). c.args.slot < length h.cells) (sym c.self.view_is) c.requires.slot in
     let none = absent_in cells len c.self.invariant c.args.slot inside (ap (λ h. key_in c.args.slot (list_of h)) c.self.view_is ∙ c.requires.absent) in
-    list_after_insert cells c.place_item.new.cells c.sift_up.new.cells len x c.self.invariant inside none c.place_item.ensures.items
+    list_after_insert cells c.place_item.new.cells.list c.sift_up.new.cells.list len x c.self.invariant inside none c.place_item.ensures.items
     c.place_item.ensures.places c.place_item.ensures.len c.sift_up.ensures.sifted
     ∙ ap (λ h. placed x (list_of h)) c.self.view_is
 

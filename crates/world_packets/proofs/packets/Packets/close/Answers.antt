@@ -26,5 +26,6 @@ invariant_of-self-2 c =
           (omega (arith, long, same, c.len-count.ensures)));
       few = omega (arith, none, p.few, c.len-count.ensures);
       wire = p.wire;
+      swept_is = λ is. absurd cc;
       filled = subst EachHolds (sym items) (holds_push p.ticks.items t p.filled (omega (arith, long, same, c.len-count.ensures, c.if-count-eq0.false)));
     }

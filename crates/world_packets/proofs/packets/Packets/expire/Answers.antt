@@ -1,4 +1,4 @@
-use Rattle.std.proofs.Common.{◌++◌, List, deque_len, length, length-append, map, drop, refl, sym, ap, ◌∙◌, subst, arith}
+use Rattle.std.proofs.Common.{◌++◌, true≢false, List, deque_len, length, length-append, map, drop, refl, sym, ap, ◌∙◌, subst, arith}
 use Rattle.std.specs.List.{flat_map}
 use Rattle.homa_plain.specs.declared.settings.Settings.{Settings}
 use Rattle.world_packets.specs.declared.tick.Tick.{Tick}
@@ -14,7 +14,8 @@ use Rattle.world_packets.proofs.RecentLaws.{EachHolds, holds_rest, no_old-ticks}
 use Rattle.world_packets.proofs.packets.Packets.expire.Goals as goal
 
 pub loop-self-init : goal.loop-self-init
-loop-self-init c = record { aged = all_aged_self c.args.self.now.settings c.args.now (kept_all c.args.self.now); settings = refl; front = refl; tick = refl }
+loop-self-init c =
+    record { aged = all_aged_self c.args.self.now.settings c.args.now (kept_all c.args.self.now); settings = refl; front = refl; tick = refl; swept = refl }
 
 pub take-requires-clause-few : goal.take-requires-clause-few
 take-requires-clause-few c =
@@ -26,8 +27,8 @@ take-requires-clause-few c =
     let two = length-append (kept_of t) (flat_map kept_of rest) in
     omega (arith, firsts_end (λ (u : Tick). u.first) kept_of (length (past_kept p.past)) p.ticks.items p.first p.firsts, all, two, p.few)
 
-pub invariant_of-self-in-loop-self : goal.invariant_of-self-in-loop-self
-invariant_of-self-in-loop-self c =
+pub invariant_of-self-in-loop-self-2 : goal.invariant_of-self-in-loop-self-2
+invariant_of-self-in-loop-self-2 c =
     let p = c.loop-self.self in
     let t = c.index.result.now in
     let rest = c.give_up.new.ticks.items in
@@ -39,6 +40,7 @@ invariant_of-self-in-loop-self c =
           (subst (λ (us : List Tick). TicksEnd (length (past_kept p.past)) us p.first) ts p.firsts);
       few = p.few;
       wire = c.take.ensures.wire ∙ p.wire;
+      swept_is = λ is. absurd (true≢false (sym is ∙ c.loop-self.invariant.swept));
       filled = holds_rest t rest (subst EachHolds ts p.filled);
     }
 
@@ -62,6 +64,7 @@ loop-self-preserved c =
       settings = l.settings;
       front = l.front;
       tick = l.tick;
+      swept = l.swept;
     }
 
 pub returns-then-not-branch-clause-no_old : goal.returns-then-not-branch-clause-no_old

@@ -1,4 +1,4 @@
-use Rattle.std.proofs.Common.{◌≡◌, length}
+use Rattle.std.proofs.Common.{◌≡◌, false, length}
 use Rattle.world_packets.specs.Kept.{AllAged}
 use Rattle.world_packets.specs.All.{kept_all, settings_of}
 use Rattle.world_packets.proofs.packets.Packets.expire.Given as goal
@@ -10,6 +10,7 @@ invariant-loop-self l = record {
   settings : settings_of l.self ≡ settings_of l.fn.self;
   front : l.self.front ≡ l.fn.self.front;
   tick : l.self.tick ≡ l.fn.self.tick;
+  swept : l.self.swept ≡ false;
 }
 
 abbrev pub decreases-loop-self : goal.decreases-loop-self

@@ -1,20 +1,16 @@
-use Rattle.std.proofs.Common.{length, map, arith}
-use Rattle.std.proofs.lemmas.List.{length-map}
-use Rattle.world_packets.specs.Blocks.{frames_of}
-use Rattle.world_packets.specs.Kept.{WholePacket}
-use Rattle.world_packets.specs.Past.{past_kept}
-use Rattle.world_packets.proofs.AllLaws.{count_all, in_front, whole_at}
+use Rattle.std.proofs.Common.{◌≡◌, ◌≤◌, Option, Some, None, length}
+use Rattle.std.specs.Prelude.{slice_get, IfSome, IfNone, MatchOption}
+use Rattle.world_packets.specs.declared.packets.Kept.{Kept}
+use Rattle.world_packets.specs.Kept.{kept_seen}
+use Rattle.world_packets.specs.All.{kept_all}
 use Rattle.world_packets.proofs.packets.Packets.get.Goals as goal
 
-pub returns-then-i-len : goal.returns-then-i-len
-returns-then-i-len c =
-    let p = c.args.self.now in
-    in_front (past_kept p.past) p.ticks.items p.first c.args.n (map (WholePacket p.tick) (frames_of p.front)) _ p.firsts (omega arith)
-    (whole_at p.tick (frames_of p.front) _ _ c.get-then-i-len.ensures)
+both_ways : {T : Type 0} (o : Option T) (P Q : Type 0) (R : T → Type 0) → P → IfNone o (P → Q) → IfSome o R → MatchOption o Q R
+both_ways None P Q R p none some = none p
+both_ways (Some x) P Q R p none some = some
 
-pub returns : goal.returns
-returns c =
+pub returns-then-n-self : goal.returns-then-n-self
+returns-then-n-self c =
     let p = c.args.self.now in
-    let all = count_all (past_kept p.past) p.ticks.items p.first (map (WholePacket p.tick) (frames_of p.front)) (length (frames_of p.front)) p.firsts
-    (length-map (frames_of p.front) (WholePacket p.tick)) in
-    omega (arith, all, c.len.ensures)
+    both_ways c.recent.result (p.first ≤ c.args.n) (length (kept_all p) ≤ c.args.n)
+    (λ (kept : Kept). slice_get (kept_all p) c.args.n ≡ Some (kept_seen kept)) c.if-n-self.true c.recent.ensures.none c.recent.ensures.some

@@ -13,7 +13,7 @@ invariant_of-self c =
     (length-map (frames_of p.front) (WholePacket p.tick)) in
     let f : Frame = record { from = c.args.from; to = c.args.to; bytes = c.args.bytes.now } in
     let more = ap length c.push.ensures.frames ∙ length-append (frames_of p.front) (f ∷ []) in
-    record { valid = p.valid; firsts = p.firsts; few = omega (arith, all, more, c.requires.room.few); wire = p.wire; filled = p.filled }
+    record { valid = p.valid; firsts = p.firsts; few = omega (arith, all, more, c.requires.room.few); wire = p.wire; swept_is = p.swept_is; filled = p.filled }
 
 pub returns-clause-room : goal.returns-clause-room
 returns-clause-room c =
