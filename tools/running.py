@@ -35,6 +35,10 @@ class Refusal(Exception):
     """Why a tool can't do what it was asked for; `run` prints it and exits with status 2."""
 
 
+class Ended(SystemExit):
+    """Raised where SIGTERM or SIGHUP comes: it has the tool's status."""
+
+
 class ClosedStream:
     """In place of a standard stream that was closed before the tool began: only its use is a fault."""
 
@@ -123,7 +127,7 @@ def end(number, _):
     for process in descendants(os.getpid()):
         with contextlib.suppress(OSError):
             os.kill(process, signal.SIGTERM)
-    sys.exit(128 + number)
+    raise Ended(128 + number)
 
 
 def interrupt(number, _):
@@ -161,12 +165,23 @@ def asks_for_help():
     return sys.argv[1:2] in (["-h"], ["--help"])
 
 
+def raised_by_signal(fault):
+    """The exception of a signal, if `fault` is that or was raised while it went its way, as an import and any `finally` may do."""
+    while fault is not None and not isinstance(fault, (KeyboardInterrupt, Ended)):
+        fault = fault.__context__
+    return fault
+
+
 def status_of(main, doc):
     try:
         if doc and asks_for_help():
             print(doc.strip())
             return 0
         return main()
+    except Exception as fault:
+        if told := raised_by_signal(fault):
+            raise told
+        raise
     finally:
         sys.stdout.flush()
 
@@ -192,21 +207,12 @@ def outcome(tool, main, faults, doc):
         restore_signals()
 
 
-def is_of_interrupt(fault):
-    """Whether it is Ctrl-C, or was raised while Ctrl-C went its way: argparse's `finally` does so."""
-    while fault is not None and not isinstance(fault, KeyboardInterrupt):
-        fault = fault.__context__
-    return fault is not None
-
-
 def run(tool, main, faults=(), doc=None):
     """Runs `main` and exits with its status. With `doc`, `--help` prints that text. `faults` are refusals too."""
     try:
         status = outcome(tool, main, faults, doc)
-    except (KeyboardInterrupt, Exception) as fault:
-        if is_of_interrupt(fault):
-            exit_by_signal(signal.SIGINT)
-        raise
+    except KeyboardInterrupt:
+        exit_by_signal(signal.SIGINT)
     sys.exit(status)
 
 
