@@ -6,6 +6,7 @@ use Rattle.std.proofs.lemmas.List.{get_or-set_same, get_or-set_other, get_or-rep
 use Rattle.std.proofs.lemmas.List.FromFn.{length-map-range_with_len, get_or-map-range_with_len, fill_by_all}
 use Rattle.place_heap.specs.declared.cells.Cell.{Cell}
 use Rattle.place_heap.specs.Cells.{cell_at, noted_place, shown, unused_cell, values_of, IsMarked, IsWritten}
+use Rattle.place_heap.proofs.Moves.{set_as_it_was}
 
 -- of equal lists the first things are the same
 pub head_of : {A : Type 0} {x y : A} {xs ys : List A} → x ∷ xs ≡ y ∷ ys → x ≡ y
@@ -101,6 +102,13 @@ module _ {marks : List ℕ} {places : List (Option Cell)} {cap : ℕ} (kept : Is
   pub put_values : (cell : Cell) → values_of (set marks i 255) (set places i (Some cell)) cap ≡ set (values_of marks places cap) i cell
   put_values cell =
       changed_values 255 (Some cell) (set marks i 255) (set places i (Some cell)) refl (λ k ne. get_or-set_other places i k (Some cell) None ne)
+      (get_or-set_same places i (Some cell) None (omega (arith, kept.len))) (length-set places i (Some cell)) refl
+
+  -- a cell that was written is another
+  pub moved_values : slice_index marks i ≡ 255 → (cell : Cell) → values_of marks (set places i (Some cell)) cap ≡ set (values_of marks places cap) i cell
+  moved_values is cell =
+      changed_values 255 (Some cell) marks (set places i (Some cell)) (sym (ap (set marks i) (sym is) ∙ set_as_it_was marks i 0))
+      (λ k ne. get_or-set_other places i k (Some cell) None ne)
       (get_or-set_same places i (Some cell) None (omega (arith, kept.len))) (length-set places i (Some cell)) refl
 
   -- the mark of a place that wasn't written is another

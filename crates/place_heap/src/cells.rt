@@ -148,6 +148,16 @@ impl Block {
         unsafe { base.ptr.add(index * base.stride + base.first).write(cell) }
     }
 
+    /// Puts another place into a cell that was written.
+    fn write_place(&mut self, base: Base, index: usize, at: u32)
+        requires { (base ≡ self.old.base) × IsNear base × (length self.old.slots ≤ 8192) ×
+            ((x : Cell) × (slice_index_or self.old.slots index None ≡ Some x)) }
+        ensures { (x : Cell) × (slice_index_or self.old.slots index None ≡ Some x) ×
+            (self.new ≡ record self.old { slots = slice_set self.old.slots index (Some (record x { at = at })) }) }
+    {
+        unsafe { (*base.ptr.add(index * base.stride + base.first)).at = at }
+    }
+
     /// Returns the value of a cell that was written.
     fn read(&self, base: Base, index: usize) -> &Cell
         requires { (base ≡ self.now.base) × IsNear base × (length self.now.slots ≤ 8192) ×
@@ -324,18 +334,21 @@ impl Cells {
         self.marks[i as usize] = WRITTEN;
     }
 
-    /// Puts another place in a cell, in two steps.
+    /// Puts another place in a cell, in one step.
     pub fn put_at<L: Ledger>(&mut self, i: u32, at: u32, steps: &mut Steps<L>)
         requires { i < length self.old.list }
         ensures cells { self.new ≡ record self.old {
           list = slice_set self.old.list i (record (cell_at self.old.list i) { at = at });
         } }
-        ensures steps { steps.new ≡ steps.old + 2 }
+        ensures steps { steps.new ≡ steps.old + 1 }
     {
-        let cell = self.get(i, steps);
+        if self.marks[i as usize] == WRITTEN {
+            steps.tick(); // a write
+            return self.block.write_place(self.base, i as usize, at);
+        }
         let mark = mark_of_place(at, self.cap);
-        if self.marks[i as usize] == WRITTEN || mark == WRITTEN {
-            return self.put(i, Cell { at, ..cell }, steps);
+        if mark == WRITTEN {
+            return self.put(i, unused(at), steps);
         }
         steps.tick(); // a write
         self.marks[i as usize] = mark;

@@ -26,7 +26,9 @@ fn least_of(front: &[Candidate]) -> usize
 {
     let mut best = 0;
     for i in 1..front.len() {
-        if stands_before(front[i].item, front[best].item) {
+        let (slot, key) = front[i].item;
+        let (best_slot, best_key) = front[best].item;
+        if stands_before(slot, key, best_slot, best_key) {
             best = i;
         }
     }

@@ -1,7 +1,7 @@
 //! The heap: slots with their keys, in heap order in a block of cells, with the place of each slot.
-ghost use Rattle.std.specs.Prelude.{◌≡◌, ℕ, ◌+◌, ◌*◌, ◌^◌, ◌<◌, ◌≤◌, ◌↔◌, [], false, length, max, None, IsTrue, IsSome, IfOk};
+ghost use Rattle.std.specs.Prelude.{◌≡◌, ℕ, ◌+◌, ◌*◌, ◌^◌, ◌<◌, ◌≤◌, ◌↔◌, [], false, length, max, None, IsTrue, IsSome, IfOk, slice_index};
 ghost use Rattle.place_heap.specs.Order.{placed, without, key_in, first_of, bits};
-ghost use Rattle.place_heap.specs.Held.{list_of, IsKept};
+ghost use Rattle.place_heap.specs.Held.{list_of, places_of, IsKept};
 ghost use Rattle.place_heap.specs.Sifted.{MayMove, IsSifted};
 
 use crate::cells::{Block, Cells};
@@ -114,9 +114,9 @@ impl PlaceHeap {
         ensures steps { steps.new ≤ steps.old + 12 * bits (max self.old.len self.new.len) + 24 }
     {
         let from = self.len;
-        place_item(&mut self.cells, from, (slot, key), steps);
+        place_item(&mut self.cells, from, slot, key, steps);
         self.len = from + 1;
-        sift_up(&mut self.cells, from + 1, from, (slot, key), steps);
+        sift_up(&mut self.cells, from + 1, from, slot, key, steps);
     }
 
     /// Gives a slot another key.
@@ -128,14 +128,28 @@ impl PlaceHeap {
         ensures kept { IsKept self.new }
         ensures steps { steps.new ≤ steps.old + 12 * bits (max self.old.len self.new.len) + 24 }
     {
-        let len = self.len;
         let place = place_of(&self.cells, slot, steps);
-        let had = item_at(&self.cells, place, steps);
-        if had.1 == key {
+        self.rekey(place, slot, key, steps);
+    }
+
+    // Gives the slot that stands at a place another key.
+    fn rekey<L: Ledger>(&mut self, place: u32, slot: u32, key: Key, steps: &mut Steps<L>)
+        requires slot { slot < length self.old.cells }
+        requires place { place ≡ slice_index (places_of self.old.cells) slot }
+        requires held { place < self.old.len }
+        ensures list { list_of self.new ≡ placed (slot, key) (without slot (list_of self.old)) }
+        ensures cap { length self.new.cells ≡ length self.old.cells }
+        ensures spot { self.new.spot ≡ self.old.spot }
+        ensures kept { IsKept self.new }
+        ensures steps { steps.new ≤ steps.old + 12 * bits (max self.old.len self.new.len) + 23 }
+    {
+        let len = self.len;
+        let had = item_at(&self.cells, place, steps).1;
+        if had == key {
             return;
         }
-        put_item(&mut self.cells, place, (slot, key), steps);
-        sift(&mut self.cells, len, place, had, (slot, key), steps);
+        put_item(&mut self.cells, place, slot, key, steps);
+        sift(&mut self.cells, len, place, slot, had, slot, key, steps);
     }
 
     /// Takes a slot out.
@@ -147,21 +161,43 @@ impl PlaceHeap {
         ensures kept { IsKept self.new }
         ensures steps { steps.new ≤ steps.old + 12 * bits (max self.old.len self.new.len) + 24 }
     {
-        let last = self.len - 1;
         let place = place_of(&self.cells, slot, steps);
-        let item = item_at(&self.cells, last, steps);
+        self.remove_at(place, slot, steps);
+    }
+
+    // Takes out the slot that stands at a place.
+    fn remove_at<L: Ledger>(&mut self, place: u32, slot: u32, steps: &mut Steps<L>)
+        requires slot { slot < length self.old.cells }
+        requires place { place ≡ slice_index (places_of self.old.cells) slot }
+        requires held { place < self.old.len }
+        ensures list { list_of self.new ≡ without slot (list_of self.old) }
+        ensures cap { length self.new.cells ≡ length self.old.cells }
+        ensures spot { self.new.spot ≡ self.old.spot }
+        ensures kept { IsKept self.new }
+        ensures steps { steps.new ≤ steps.old + 12 * bits (max self.old.len self.new.len) + 23 }
+    {
+        let last = self.len - 1;
+        let (last_slot, key) = item_at(&self.cells, last, steps);
         let cap = self.cells.cap();
         put_place(&mut self.cells, slot, cap, steps);
         self.len = last;
         if place < last {
-            let had = item_at(&self.cells, place, steps);
-            place_item(&mut self.cells, place, item, steps);
-            sift(&mut self.cells, last, place, had, item, steps);
+            let had = item_at(&self.cells, place, steps).1;
+            place_item(&mut self.cells, place, last_slot, key, steps);
+            sift(
+                &mut self.cells,
+                last,
+                place,
+                slot,
+                had,
+                last_slot,
+                key,
+                steps,
+            );
         }
     }
 
     /// Gives a slot this key, whether or not the heap holds it.
-    #[tactic(auto, using(crate::proofs::Absent::without_absent))]
     pub fn put<L: Ledger>(&mut self, slot: u32, key: Key, steps: &mut Steps<L>)
         requires { slot < length self.old.cells }
         ensures list { list_of self.new ≡ placed (slot, key) (without slot (list_of self.old)) }
@@ -169,15 +205,15 @@ impl PlaceHeap {
         ensures spot { self.new.spot ≡ self.old.spot }
         ensures steps { steps.new ≤ steps.old + 12 * bits (max self.old.len self.new.len) + 26 }
     {
-        if self.has(slot, steps) {
-            self.update(slot, key, steps);
+        let place = place_of(&self.cells, slot, steps);
+        if place < self.len {
+            self.rekey(place, slot, key, steps);
         } else {
             self.insert(slot, key, steps);
         }
     }
 
     /// Takes a slot out, if the heap holds it.
-    #[tactic(auto, using(crate::proofs::Absent::without_absent))]
     pub fn take_out<L: Ledger>(&mut self, slot: u32, steps: &mut Steps<L>)
         requires { slot < length self.old.cells }
         ensures list { list_of self.new ≡ without slot (list_of self.old) }
@@ -185,8 +221,9 @@ impl PlaceHeap {
         ensures spot { self.new.spot ≡ self.old.spot }
         ensures steps { steps.new ≤ steps.old + 12 * bits (max self.old.len self.new.len) + 26 }
     {
-        if self.has(slot, steps) {
-            self.remove(slot, steps);
+        let place = place_of(&self.cells, slot, steps);
+        if place < self.len {
+            self.remove_at(place, slot, steps);
         }
     }
 }
@@ -196,18 +233,20 @@ fn sift<L: Ledger>(
     cells: &mut Cells,
     len: u32,
     from: u32,
-    had: Item,
-    item: Item,
+    had_slot: u32,
+    had: Key,
+    slot: u32,
+    key: Key,
     steps: &mut Steps<L>,
 )
-    requires { MayMove cells.old.list len from had item }
+    requires { MayMove cells.old.list len from (had_slot, had) (slot, key) }
     ensures sifted { IsSifted cells.old.list cells.new.list len }
     ensures spot { cells.new.spot ≡ cells.old.spot }
     ensures steps { (b : ℕ) → len < 2 ^ b → steps.new ≤ steps.old + 10 * b + 2 }
 {
-    if stands_before(item, had) {
-        sift_up(cells, len, from, item, steps);
+    if stands_before(slot, key, had_slot, had) {
+        sift_up(cells, len, from, slot, key, steps);
     } else {
-        sift_down(cells, len, from, item, steps);
+        sift_down(cells, len, from, slot, key, steps);
     }
 }

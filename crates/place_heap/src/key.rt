@@ -12,13 +12,11 @@ pub struct Key {
 /// A slot with its key.
 pub type Item = (u32, Key);
 
-/// Whether `a` stands before `b`: by key, and then by slot.
+/// Whether a slot with its key stands before another: by key, and then by slot.
 #[tactic(auto, unfolding(crate::specs::Order::is_before))]
-pub(crate) fn stands_before(a: Item, b: Item) -> bool
-    ensures { result ≡ is_before a b }
+pub(crate) fn stands_before(slot: u32, key: Key, other_slot: u32, other: Key) -> bool
+    ensures { result ≡ is_before (slot, key) (other_slot, other) }
 {
-    let (slot, key) = a;
-    let (other_slot, other) = b;
     key.first < other.first
         || key.first == other.first
             && (key.second < other.second || key.second == other.second && slot < other_slot)

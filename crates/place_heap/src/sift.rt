@@ -4,7 +4,7 @@ ghost use Rattle.place_heap.specs.Held.{items_of, places_of, at};
 ghost use Rattle.place_heap.specs.Sifted.{CanSiftUp, CanSiftDown, IsSifted, IsLeastChild};
 
 use crate::cells::{Cell, Cells};
-use crate::key::{Item, stands_before};
+use crate::key::{Item, Key, stands_before};
 use crate::steps::Steps;
 use std::sync::ledger::Ledger;
 
@@ -28,43 +28,54 @@ pub(crate) fn place_of<L: Ledger>(cells: &Cells, slot: u32, steps: &mut Steps<L>
 }
 
 /// Puts an item in a place, in two steps.
-pub(crate) fn put_item<L: Ledger>(cells: &mut Cells, i: u32, item: Item, steps: &mut Steps<L>)
+pub(crate) fn put_item<L: Ledger>(
+    cells: &mut Cells,
+    i: u32,
+    slot: u32,
+    key: Key,
+    steps: &mut Steps<L>,
+)
     requires { i < length cells.old.list }
-    ensures items { items_of cells.new.list ≡ slice_set (items_of cells.old.list) i item }
+    ensures items { items_of cells.new.list ≡ slice_set (items_of cells.old.list) i (slot, key) }
     ensures places { places_of cells.new.list ≡ places_of cells.old.list }
     ensures len { length cells.new.list ≡ length cells.old.list }
     ensures spot { cells.new.spot ≡ cells.old.spot }
     ensures steps { steps.new ≡ steps.old + 2 }
 {
     let at = cells.get(i, steps).at;
-    let (slot, key) = item;
     cells.put(i, Cell { key, slot, at }, steps);
 }
 
-/// Notes the place of a slot, in two steps.
+/// Notes the place of a slot, in one step.
 pub(crate) fn put_place<L: Ledger>(cells: &mut Cells, slot: u32, place: u32, steps: &mut Steps<L>)
     requires { slot < length cells.old.list }
     ensures items { items_of cells.new.list ≡ items_of cells.old.list }
     ensures places { places_of cells.new.list ≡ slice_set (places_of cells.old.list) slot place }
     ensures len { length cells.new.list ≡ length cells.old.list }
     ensures spot { cells.new.spot ≡ cells.old.spot }
-    ensures steps { steps.new ≡ steps.old + 2 }
+    ensures steps { steps.new ≡ steps.old + 1 }
 {
     cells.put_at(slot, place, steps);
 }
 
-/// Puts an item in a place and notes the place of its slot, in four steps.
-pub(crate) fn place_item<L: Ledger>(cells: &mut Cells, i: u32, item: Item, steps: &mut Steps<L>)
+/// Puts an item in a place and notes the place of its slot, in three steps.
+pub(crate) fn place_item<L: Ledger>(
+    cells: &mut Cells,
+    i: u32,
+    slot: u32,
+    key: Key,
+    steps: &mut Steps<L>,
+)
     requires place { i < length cells.old.list }
-    requires slot { item.0 < length cells.old.list }
-    ensures items { items_of cells.new.list ≡ slice_set (items_of cells.old.list) i item }
-    ensures places { places_of cells.new.list ≡ slice_set (places_of cells.old.list) item.0 i }
+    requires slot { slot < length cells.old.list }
+    ensures items { items_of cells.new.list ≡ slice_set (items_of cells.old.list) i (slot, key) }
+    ensures places { places_of cells.new.list ≡ slice_set (places_of cells.old.list) slot i }
     ensures len { length cells.new.list ≡ length cells.old.list }
     ensures spot { cells.new.spot ≡ cells.old.spot }
-    ensures steps { steps.new ≡ steps.old + 4 }
+    ensures steps { steps.new ≡ steps.old + 3 }
 {
-    put_item(cells, i, item, steps);
-    put_place(cells, item.0, i, steps);
+    put_item(cells, i, slot, key, steps);
+    put_place(cells, slot, i, steps);
 }
 
 /// Moves the item at a place up, until its parent stands before it.
@@ -72,10 +83,11 @@ pub(crate) fn sift_up<L: Ledger>(
     cells: &mut Cells,
     len: u32,
     from: u32,
-    item: Item,
+    slot: u32,
+    key: Key,
     steps: &mut Steps<L>,
 )
-    requires { CanSiftUp cells.old.list len from item }
+    requires { CanSiftUp cells.old.list len from (slot, key) }
     ensures sifted { IsSifted cells.old.list cells.new.list len }
     ensures spot { cells.new.spot ≡ cells.old.spot }
     ensures steps { (b : ℕ) → from < 2 ^ b → steps.new ≤ steps.old + 9 * b + 1 }
@@ -83,12 +95,12 @@ pub(crate) fn sift_up<L: Ledger>(
     let mut i = from;
     'up: while i > 0 {
         let above = (i - 1) / 2;
-        let parent = item_at(cells, above, steps);
-        if !stands_before(item, parent) {
+        let (other_slot, other) = item_at(cells, above, steps);
+        if !stands_before(slot, key, other_slot, other) {
             return;
         }
-        place_item(cells, i, parent, steps);
-        place_item(cells, above, item, steps);
+        place_item(cells, i, other_slot, other, steps);
+        place_item(cells, above, slot, key, steps);
         i = above;
     }
 }
@@ -108,7 +120,7 @@ fn least_child<L: Ledger>(cells: &Cells, len: u32, i: u32, steps: &mut Steps<L>)
         return (left, item);
     }
     let other = item_at(cells, right, steps);
-    if stands_before(other, item) {
+    if stands_before(other.0, other.1, item.0, item.1) {
         (right, other)
     } else {
         (left, item)
@@ -120,22 +132,23 @@ pub(crate) fn sift_down<L: Ledger>(
     cells: &mut Cells,
     len: u32,
     from: u32,
-    item: Item,
+    slot: u32,
+    key: Key,
     steps: &mut Steps<L>,
 )
-    requires { CanSiftDown cells.old.list len from item }
+    requires { CanSiftDown cells.old.list len from (slot, key) }
     ensures sifted { IsSifted cells.old.list cells.new.list len }
     ensures spot { cells.new.spot ≡ cells.old.spot }
     ensures steps { (b : ℕ) → len < 2 ^ b → steps.new ≤ steps.old + 10 * b + 2 }
 {
     let mut i = from;
     'down: while 2 * i + 1 < len {
-        let (below, child) = least_child(cells, len, i, steps);
-        if !stands_before(child, item) {
+        let (below, (other_slot, other)) = least_child(cells, len, i, steps);
+        if !stands_before(other_slot, other, slot, key) {
             return;
         }
-        place_item(cells, i, child, steps);
-        place_item(cells, below, item, steps);
+        place_item(cells, i, other_slot, other, steps);
+        place_item(cells, below, slot, key, steps);
         i = below;
     }
 }

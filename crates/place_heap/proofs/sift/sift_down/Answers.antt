@@ -15,7 +15,7 @@ down-init g c = record {
 pub returns-then-not-stands_before-clause-sifted : goal.returns-then-not-stands_before-clause-sifted
 returns-then-not-stands_before-clause-sifted g c =
     let child = c.least_child-below.result in
-    sift_down_ends c.args.cells.now.list c.down.cells.list c.args.len c.down.i child.0 c.args.item child.1 c.down.invariant.can
+    sift_down_ends c.args.cells.now.list c.down.cells.list c.args.len c.down.i child.0 (c.args.slot, c.args.key) child.1 c.down.invariant.can
     c.least_child-below.ensures.least
     (sym c.stands_before.ensures ∙ c.if-not-stands_before.true) c.down.invariant.same_len c.down.invariant.list
 
@@ -23,9 +23,9 @@ pub down-preserved : goal.down-preserved
 down-preserved g c =
     let child =
     c.least_child-below.result in let down = c.least_child-below.ensures.least in let one = c.place_item.ensures in let two = c.place_item-in-down.ensures in
-    let wrote = wrote_both c.down.cells.list c.place_item.new.cells.list c.place_item-in-down.new.cells.list c.down.i child.0 c.args.item child.1 one.items
+    let wrote = wrote_both c.down.cells.list c.place_item.new.cells.list c.place_item-in-down.new.cells.list c.down.i child.0 (c.args.slot, c.args.key) child.1 one.items
     one.places one.len two.items two.places two.len in
-    let step = sift_down_step c.down.cells.list c.place_item-in-down.new.cells.list c.args.len c.down.i child.0 c.args.item child.1 c.down.invariant.can down
+    let step = sift_down_step c.down.cells.list c.place_item-in-down.new.cells.list c.args.len c.down.i child.0 (c.args.slot, c.args.key) child.1 c.down.invariant.can down
     (sym c.stands_before.ensures ∙ c.if-not-stands_before.false) wrote in
     record {
       can = step.0;

@@ -6,7 +6,7 @@ use Rattle.place_heap.proofs.sift.sift_down.Given as goal
 
 abbrev pub invariant-down : goal.invariant-down
 invariant-down g l = record {
-  can : CanSiftDown l.cells.list l.len l.i l.item;
+  can : CanSiftDown l.cells.list l.len l.i (l.slot, l.key);
   same_len : length l.cells.list ≡ length l.fn.cells.list;
   spot : l.cells.spot ≡ l.fn.cells.spot;
   list : ordered (take l.len (items_of l.cells.list)) ≡ ordered (take l.len (items_of l.fn.cells.list));

@@ -6,7 +6,7 @@ use Rattle.place_heap.proofs.sift.sift_up.Given as goal
 
 abbrev pub invariant-up : goal.invariant-up
 invariant-up g l = record {
-  can : CanSiftUp l.cells.list l.len l.i l.item;
+  can : CanSiftUp l.cells.list l.len l.i (l.slot, l.key);
   same_len : length l.cells.list ≡ length l.fn.cells.list;
   spot : l.cells.spot ≡ l.fn.cells.spot;
   list : ordered (take l.len (items_of l.cells.list)) ≡ ordered (take l.len (items_of l.fn.cells.list));
