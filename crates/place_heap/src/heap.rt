@@ -1,5 +1,6 @@
 //! The heap: slots with their keys, in heap order in a block of cells, with the place of each slot.
-ghost use Rattle.std.specs.Prelude.{◌≡◌, ℕ, ◌+◌, ◌*◌, ◌^◌, ◌<◌, ◌≤◌, ◌↔◌, [], false, length, max, None, IsTrue, IsSome, IfOk, slice_index};
+ghost use Rattle.std.specs.Prelude.{◌≡◌, ℕ, ◌+◌, ◌*◌, ◌^◌, ◌<◌, ◌≤◌, ◌↔◌, [], false, length, max, None};
+ghost use Rattle.std.specs.Prelude.{IsTrue, IsSome, IfOk, slice_index};
 ghost use Rattle.place_heap.specs.Order.{placed, without, key_in, first_of, bits};
 ghost use Rattle.place_heap.specs.Held.{list_of, places_of, IsKept};
 ghost use Rattle.place_heap.specs.Sifted.{MayMove, IsSifted};

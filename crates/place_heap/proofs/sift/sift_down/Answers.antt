@@ -1,4 +1,5 @@
 use Rattle.std.proofs.Common.{refl, sym, ◌∙◌, arith}
+use Rattle.place_heap.specs.Order.{Item}
 use Rattle.place_heap.proofs.Costs.{level_down, deep_from}
 use Rattle.place_heap.proofs.Moves.{wrote_both, sift_down_step, sift_down_ends}
 use Rattle.place_heap.proofs.sift.sift_down.Goals as goal
@@ -23,9 +24,10 @@ pub down-preserved : goal.down-preserved
 down-preserved g c =
     let child =
     c.least_child-below.result in let down = c.least_child-below.ensures.least in let one = c.place_item.ensures in let two = c.place_item-in-down.ensures in
-    let wrote = wrote_both c.down.cells.list c.place_item.new.cells.list c.place_item-in-down.new.cells.list c.down.i child.0 (c.args.slot, c.args.key) child.1 one.items
+    let item : Item = (c.args.slot, c.args.key) in
+    let wrote = wrote_both c.down.cells.list c.place_item.new.cells.list c.place_item-in-down.new.cells.list c.down.i child.0 item child.1 one.items
     one.places one.len two.items two.places two.len in
-    let step = sift_down_step c.down.cells.list c.place_item-in-down.new.cells.list c.args.len c.down.i child.0 (c.args.slot, c.args.key) child.1 c.down.invariant.can down
+    let step = sift_down_step c.down.cells.list c.place_item-in-down.new.cells.list c.args.len c.down.i child.0 item child.1 c.down.invariant.can down
     (sym c.stands_before.ensures ∙ c.if-not-stands_before.false) wrote in
     record {
       can = step.0;

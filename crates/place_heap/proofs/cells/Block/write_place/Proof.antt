@@ -68,13 +68,14 @@ write_place_spec 𝓤 𝓛 𝓜 𝓡 wired =
     qed 𝓛 (((‵ (flft κs.0 qs.0) ⊛ ‵ ftrue) ⊛ ‵ (owns (MutRef (named 0) κs.0 R ∷ B ∷ usize ∷ u32 ∷ []) a vs)) ∷ raw
     (fact 𝓤 ((base ≡ h.base) × IsNear base × (length h.slots ≤ 8192) × ((x : Cell) × (get_or h.slots i None ≡ Some x)))) ∷ []) ∵
     move ! (1 ∷ []) $ heard ! _ (λ asked.
-    let x = asked.3.0 in let inside = filled_inside h.slots i x asked.3.1 in
+    let x = asked.3.0 in let inside = filled_inside h.slots i x asked.3.1 in let fits = are.1.1.1.0.1 in
     let x' : Cell = record x { at = at } in
     let new : R.Denot = record h { slots = set h.slots i (Some x') } in
     split ! $ split ! $ move ! (2 ∷ []) $ fsplit ! $ keep ! (0 ∷ 2 ∷ []) $
     -- [self; the token]
     enter ! _ _ _ _ _ $ alloc_all !
-    (λ l. pass_all ! refl ((tt, tt), (((BL.the_row_laws.lawful 𝓛).typed base _ are.1.0).0, ((tt, record { fits = are.1.1.0.1 }), ((tt, record { fits = are.1.1.1.0.1 }), tt)))) $
+    (λ l. pass_all ! refl
+    ((tt, tt), (((BL.the_row_laws.lawful 𝓛).typed base _ are.1.0).0, ((tt, record { fits = are.1.1.0.1 }), ((tt, record { fits = fits }), tt)))) $
     fsplit3 ! $ move ! (1 ∷ 2 ∷ 3 ∷ []) $ opens ! tt R b o (λ us. move ! (1 ∷ []) $ fsplit ! $ move ! (1 ∷ []) $
     rewrite ! 0 (λ (d : B.Denot). ‵ (block_owns d h.slots)) (sym asked.0) refl $
     in_a_block ! base.ptr (λ p. cells_at p k s h.slots) (id⊢ 𝓤 _) (λ b' o' e.
@@ -97,10 +98,10 @@ write_place_spec 𝓤 𝓛 𝓜 𝓡 wired =
     split ! $ move ! (1 ∷ []) $ facts ! C (Is C) (shows 𝓛 C) x (v ∷ []) (λ is.
     rewrite ! 0 (λ (u : Val). ‵ (fat full_share cell_ty b' there u)) (head_of (CL.lowers.val_is x (v ∷ []) is)) refl $
     -- [the cell; the others; no fields; self's cell; the open borrow, in three; self's first part]
-    assigns_last ! (of_opd ! (get ! refl)) (through ! refl (fld ! refl (stop !))) (store_in ! 0 (sub ! 2 refl (whole !)) (tt, record { fits = are.1.1.1.0.1 })) $
+    assigns_last ! (of_opd ! (get ! refl)) (through ! refl (fld ! refl (stop !))) (store_in ! 0 (sub ! 2 refl (whole !)) (tt, record { fits = fits })) $
     exec ! 𝓣.C 𝓣.Λ (env code.Mir.locals l) (after 1 (code.function).body) (at_ret _ (W.post y)) $
     sets ! (of_opd ! (unit_lit !)) refl (tt, tt) $
-    owned ! C (Is C) (LL.makes c_type CL.the_plain 𝓛) x' (CL.lowered x' ∷ []) (moved x v at are.1.1.1.0.1 is) $ move ! (1 ∷ 0 ∷ []) $
+    owned ! C (Is C) (LL.makes c_type CL.the_plain 𝓛) x' (CL.lowered x' ∷ []) (moved x v at fits is) $ move ! (1 ∷ 0 ∷ []) $
     use2 𝓛 (‵ (place b' there (Some x'))) (part_in 𝓛 C refl full_share x' b' there (CL.lowered x')) $
     rewrite ! 0 (λ (n : ℕ). ‵ (place b' n (Some x'))) (sym (by_index i s k o')) refl $
     use2 𝓛 (‵ (places b' (k * 24 + o') s new.slots)) (cell_in 𝓛 b' (k * 24 + o') s h.slots i inside (Some x')) $
