@@ -429,11 +429,7 @@ fn hears_two_lives(rt: &impl Abort, client: &mut Client, slot: u32)
 fn is_forgotten(rt: &impl Abort, client: &mut Client, slot: u32)
     requires { AreIn client.old.pool (part_at client.old.table.rows) }
 {
-    let busy = ClientDid::Say {
-        slot,
-        body: Body::Busy,
-    };
-    gets(rt, client, 2, Body::NeedAck, b"", 14, busy);
+    gets(rt, client, 2, Body::NeedAck, b"", 14, ClientDid::Busy(slot));
     let unknown = Body::Unknown { reason: 0 };
     gets(rt, client, 2, unknown, b"", 15, ClientDid::Touched(slot));
     let forgotten = Body::Unknown { reason: 1 };

@@ -107,7 +107,7 @@ slot_in (did.Opened slot) = Some slot
 slot_in (did.Done slot id opened) = Some slot
 slot_in (did.Full slot id need free) = Some slot
 slot_in (did.Gaps slot id) = Some slot
-slot_in (did.Say slot what) = Some slot
+slot_in (did.Busy slot) = Some slot
 slot_in did.Ack = None
 slot_in (did.Forgotten slot id) = Some slot
 
@@ -115,18 +115,6 @@ slot_in (did.Forgotten slot id) = Some slot
 abbrev pub slot_for : HeldRows → Packet → Option ℕ
 slot_for rows p =
     option_and_then (λ (x : Placed HeldRow). if is_host (sender p) x.row.server && not (nat_lt p.inc x.row.seen) then Some x.place else None) (get rows p.id)
-
--- what is said to the server, if something is
-abbrev pub IfSaid : ClientDid → (Body → Type 0) → Type 0
-IfSaid did.Nothing P = Unit {0}
-IfSaid (did.Touched slot) P = Unit {0}
-IfSaid (did.Opened slot) P = Unit {0}
-IfSaid (did.Done slot id opened) P = Unit {0}
-IfSaid (did.Full slot id need free) P = Unit {0}
-IfSaid (did.Gaps slot id) P = Unit {0}
-IfSaid (did.Say slot what) P = P what
-IfSaid did.Ack P = Unit {0}
-IfSaid (did.Forgotten slot id) P = Unit {0}
 
 -- after Done and Forgotten the call has no row; where another answer names a place, its row stands
 abbrev pub HasLeft : ClientDid → Option ClientRow → Type 0
@@ -136,7 +124,7 @@ HasLeft (did.Opened slot) row = IsSome row
 HasLeft (did.Done slot id opened) row = row ≡ None
 HasLeft (did.Full slot id need free) row = IsSome row
 HasLeft (did.Gaps slot id) row = IsSome row
-HasLeft (did.Say slot what) row = IsSome row
+HasLeft (did.Busy slot) row = IsSome row
 HasLeft did.Ack row = Unit {0}
 HasLeft (did.Forgotten slot id) row = row ≡ None
 
@@ -157,7 +145,7 @@ answer_of m p row told (did.Done slot id opened) =
 answer_of m p row told (did.Full slot id need free) = says m row (Tells (PlainFullPages id.client id need free) ∷ [])
 answer_of m p row told (did.Gaps slot id) =
     record (leaves m row) { version = first_version (piece_in p.body p.payload); says = Tells (PlainGaps id.client id) ∷ [] }
-answer_of m p row told (did.Say slot what) = says m row (Posts what ∷ [])
+answer_of m p row told (did.Busy slot) = says m row (Posts body.Busy ∷ [])
 answer_of m p row told did.Ack = says m row (Posts (body.Ack []) ∷ [])
 answer_of m p row told (did.Forgotten slot id) = says m row (Tells (PlainFail id WhyForgotten) ∷ [])
 
@@ -170,7 +158,6 @@ pub record Received (old : Clients) (pool : Pool) (p : Packet) (now order : ℕ)
   pub slot : slot_in answer ≡ slot_for old.rows p
   pub same : slot_in answer ≡ None → (new ≡ old) × (pool' ≡ pool)
   pub left : HasLeft answer (row_at pool' new.rows p.id)
-  pub said : IfSaid answer (λ what. what ≡ body.Busy)
   pub moved : Moved p.id old pool new pool' (row_at pool' new.rows p.id)
 
 -- ---- a call starts
@@ -225,7 +212,7 @@ told_of slot id row.Opened = did.Opened slot
 told_of slot id (row.Done opened) = did.Done slot id opened
 told_of slot id (row.Full need free) = did.Full slot id need free
 told_of slot id row.Gaps = did.Gaps slot id
-told_of slot id row.Busy = did.Say slot body.Busy
+told_of slot id row.Busy = did.Busy slot
 told_of slot id row.Forgotten = did.Forgotten slot id
 
 -- the rows afterwards: that of a call that is done or forgotten is gone

@@ -1,6 +1,6 @@
 //! What the calls of the table answer.
 //! Rules: the answers that stand for BUSY, an ACK, RESEND, an UNKNOWN and a timeout.
-use homa_plain::{Body, CallId};
+use homa_plain::CallId;
 
 /// What a packet of a row's call did to the row.
 #[derive(Debug, PartialEq, Eq, Drop)]
@@ -48,11 +48,8 @@ pub enum ClientDid {
         slot: u32,
         id: CallId,
     },
-    /// The server is to be told this: BUSY.
-    Say {
-        slot: u32,
-        body: Body,
-    },
+    /// The server is to be told BUSY.
+    Busy(u32),
     /// The server asks whether a call is over that isn't live: it is to be told so.
     Ack,
     /// The server ran the call and has forgotten it. The row is gone.

@@ -20,7 +20,7 @@ ghost use Rattle.homa_in.specs.Pieces.{moment_with};
 ghost use Rattle.homa_in.specs.Sends.{IfSent, IsAffordable};
 ghost use Rattle.homa_client.specs.Held.{HeldRow, seen_row, IsRow};
 ghost use Rattle.homa_client.specs.Gives.{row_emits, row_sends, facts, IsAct, IsAsked};
-ghost use Rattle.homa_client.specs.AtTable.{Clients, part_at, place_at, IsOwnCall, IsCallAt, Received, Moved, Started, fault_of, slot_in, IfSaid};
+ghost use Rattle.homa_client.specs.AtTable.{Clients, part_at, place_at, IsOwnCall, IsCallAt, Received, Moved, Started, fault_of, slot_in};
 ghost use Rattle.homa_client.specs.Lending.{IsSame};
 ghost use Rattle.homa_client.specs.AtTable.{answer_of, told_of, rows_left, IsDueAt, HasActed, row_at, MayGrant};
 
@@ -213,10 +213,7 @@ impl ClientTable {
                 free,
             },
             RowDid::Gaps => ClientDid::Gaps { slot, id },
-            RowDid::Busy => ClientDid::Say {
-                slot,
-                body: Body::Busy,
-            },
+            RowDid::Busy => ClientDid::Busy(slot),
             RowDid::Forgotten => {
                 self.rows.remove(slot);
                 ClientDid::Forgotten { slot, id }
@@ -357,7 +354,6 @@ impl ClientTable {
 fn not_live(body: &Body) -> ClientDid
     ensures did { (m : PlainMoment) (p : PlainPacket) (told : List ℕ) → unasked m body.now ≡ answer_of m p None told result }
     ensures slot { slot_in result ≡ None }
-    ensures said { IfSaid result (λ what. what ≡ Body.Busy) }
 {
     match body {
         Body::NeedAck => ClientDid::Ack,

@@ -54,7 +54,7 @@ client_change (client.Opened slot) = Stays slot
 client_change (client.Done slot id opened) = Goes slot
 client_change (client.Full slot id need free) = Stays slot
 client_change (client.Gaps slot id) = Stays slot
-client_change (client.Say slot what) = Stays slot
+client_change (client.Busy slot) = Stays slot
 client_change client.Ack = Nothing
 client_change (client.Forgotten slot id) = Goes slot
 
@@ -72,7 +72,8 @@ server_change (server.Ran slot opened hold) = Stays slot
 server_change (server.FullRows rows) = Nothing
 server_change (server.FullPages need free) = Nothing
 server_change (server.Gaps slot) = Stays slot
-server_change (server.Say slot what) = slot_change slot
+server_change (server.Busy slot) = Stays slot
+server_change (server.Unknown slot) = slot_change slot
 
 -- ---- order numbers
 
@@ -89,7 +90,7 @@ client_orders (client.Opened slot) = 1
 client_orders (client.Done slot id opened) = one_if opened
 client_orders (client.Full slot id need free) = 0
 client_orders (client.Gaps slot id) = 0
-client_orders (client.Say slot what) = 0
+client_orders (client.Busy slot) = 0
 client_orders client.Ack = 0
 client_orders (client.Forgotten slot id) = 0
 
@@ -102,7 +103,8 @@ server_orders (server.Ran slot opened hold) = one_if opened + one_if (hold == 0)
 server_orders (server.FullRows rows) = 0
 server_orders (server.FullPages need free) = 0
 server_orders (server.Gaps slot) = 0
-server_orders (server.Say slot what) = 0
+server_orders (server.Busy slot) = 0
+server_orders (server.Unknown slot) = 0
 
 -- ---- by what changed
 
@@ -126,7 +128,7 @@ IfTouched (client.Opened slot) P = Unit {0}
 IfTouched (client.Done slot id opened) P = Unit {0}
 IfTouched (client.Full slot id need free) P = Unit {0}
 IfTouched (client.Gaps slot id) P = Unit {0}
-IfTouched (client.Say slot what) P = Unit {0}
+IfTouched (client.Busy slot) P = Unit {0}
 IfTouched client.Ack P = Unit {0}
 IfTouched (client.Forgotten slot id) P = Unit {0}
 
@@ -139,7 +141,8 @@ IfServerTouched (server.Ran slot opened hold) P = Unit {0}
 IfServerTouched (server.FullRows rows) P = Unit {0}
 IfServerTouched (server.FullPages need free) P = Unit {0}
 IfServerTouched (server.Gaps slot) P = Unit {0}
-IfServerTouched (server.Say slot what) P = Unit {0}
+IfServerTouched (server.Busy slot) P = Unit {0}
+IfServerTouched (server.Unknown slot) P = Unit {0}
 
 -- ---- what the books owe
 

@@ -25,7 +25,8 @@ is_quiet (did.Ran slot opened hold) touched = false
 is_quiet (did.FullRows rows) touched = false
 is_quiet (did.FullPages need free) touched = false
 is_quiet (did.Gaps slot) touched = false
-is_quiet (did.Say slot what) touched = false
+is_quiet (did.Busy slot) touched = false
+is_quiet (did.Unknown slot) touched = false
 
 -- the control and the frames, when this answer of a server's table was settled: `number` is the service of the packet's piece,
 -- `head` and `touched` are what the piece tells of its message

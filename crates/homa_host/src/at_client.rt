@@ -14,7 +14,7 @@ ghost use Rattle.msg_pool.specs.Pool.{Pool};
 ghost use Rattle.homa_in.specs.Pieces.{piece_in};
 ghost use Rattle.host_places.specs.Placed.{StandsAt, spot_at};
 ghost use Rattle.homa_client.specs.Held.{HeldRow, seen_row};
-ghost use Rattle.homa_client.specs.AtTable.{version_at, answer_of, IfSaid};
+ghost use Rattle.homa_client.specs.AtTable.{version_at, answer_of};
 ghost use Rattle.host_state.specs.Control.{IsAt, IsSound};
 ghost use Rattle.host_view.specs.Marks.{IsWhole};
 ghost use Rattle.homa_host.specs.Parts.{IsKept};
@@ -88,7 +88,6 @@ fn settle(
     requires call { 1 ≤ id.inc }
     requires len { length_in head ≤ LONGEST_MESSAGE }
     requires opened { control.old.tuning.opened + 1 < 2 ^ 64 }
-    requires said { IfSaid did (λ what. what ≡ Body.Busy) }
     requires room { length control.old.marks + 4 ≤ 128 }
     requires frames { length out.old + 3 ≤ 64 }
     ensures step { (m : Moment) (p : PlainPacket) (row : Option ClientRow) (told : List ℕ) (w : Work) → head ≡ head_in p.body

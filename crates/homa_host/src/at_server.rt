@@ -17,7 +17,7 @@ ghost use Rattle.msg_pool.specs.Pool.{Pool};
 ghost use Rattle.homa_in.specs.Pieces.{piece_in};
 ghost use Rattle.host_places.specs.Placed.{StandsAt, spot_at};
 ghost use Rattle.homa_server.specs.Held.{HeldServer, seen_server};
-ghost use Rattle.homa_server.specs.Answers.{version_there, service_in, acked_of, IfSaid, IsAnswerBody};
+ghost use Rattle.homa_server.specs.Answers.{version_there, service_in, acked_of};
 ghost use Rattle.host_state.specs.Saying.{IsOutcome, FitsSaid, outcome_marks, outcome_frames};
 ghost use Rattle.homa_plain.specs.Rows.{ServerRow};
 ghost use Rattle.host_view.specs.Marks.{response_of, IsReply, IsWhole};
@@ -154,7 +154,6 @@ fn settle(
     requires call { 1 ≤ id.inc }
     requires len { length_in head ≤ LONGEST_MESSAGE }
     requires opened { control.old.tuning.opened + 1 < 2 ^ 64 }
-    requires said { IfSaid did IsAnswerBody }
     requires room { length control.old.marks + 3 ≤ 128 }
     requires frames { length out.old + 2 ≤ 64 }
     ensures { SettledServer id did number head touched control.old out.old control.new out.new }

@@ -16,9 +16,9 @@ ghost use Rattle.homa_in.specs.Pieces.{piece_in};
 ghost use Rattle.host_places.specs.Placed.{StandsAt, spot_at};
 ghost use Rattle.homa_client.specs.Held.{HeldRow, seen_row};
 ghost use Rattle.homa_client.specs.Gives.{IsAct, IsAsked};
-ghost use Rattle.homa_client.specs.AtTable.{version_at, answer_of, IfSaid};
+ghost use Rattle.homa_client.specs.AtTable.{version_at, answer_of};
 ghost use Rattle.homa_server.specs.Held.{HeldServer, seen_server};
-ghost use Rattle.homa_server.specs.Answers.{version_there, service_in, served_of, acted_of, IfSaid as IfServerSaid, IsAnswerBody, IfResend};
+ghost use Rattle.homa_server.specs.Answers.{version_there, service_in, served_of, acted_of, reason_for, IfResend};
 ghost use Rattle.homa_server.specs.Table.{request_at};
 ghost use Rattle.host_state.specs.Saying.{IsOutcome, FitsSaid, outcome_marks, outcome_frames, one_of};
 ghost use Rattle.host_books.specs.Duty.{client_duty, server_duty, timer_duty, arrival_duty};
@@ -99,9 +99,10 @@ pub(crate) fn client_change(did: &ClientDid) -> Change
 {
     match did {
         ClientDid::Nothing | ClientDid::Ack => Change::Nothing,
-        ClientDid::Touched(slot) | ClientDid::Opened(slot) => Change::Stays(*slot),
+        ClientDid::Touched(slot) | ClientDid::Opened(slot) | ClientDid::Busy(slot) => {
+            Change::Stays(*slot)
+        }
         ClientDid::Full { slot, .. } | ClientDid::Gaps { slot, .. } => Change::Stays(*slot),
-        ClientDid::Say { slot, .. } => Change::Stays(*slot),
         ClientDid::Done { slot, .. } | ClientDid::Forgotten { slot, .. } => Change::Goes(*slot),
     }
 }
@@ -114,7 +115,7 @@ pub(crate) fn client_outcome(
 ) -> Outcome
     ensures outcome { (m : Moment) (p : PlainPacket) (row : Option ClientRow) (told : List ℕ) → head ≡ head_in p.body
         → IfTouched did (λ _. touched ≡ version_at (piece_in p.body p.payload) row) → IsOutcome (answer_of m p row told did) result }
-    ensures fits { IfSaid did (λ what. what ≡ Body.Busy) → FitsSaid AsClient result.said }
+    ensures fits { FitsSaid AsClient result.said }
     ensures len { length_in head ≤ LONGEST_MESSAGE → IfSome result.opened (λ len. len ≤ LONGEST_MESSAGE) }
     ensures marks { outcome_marks result ≤ 4 }
     ensures frames { outcome_frames result ≤ 3 }
@@ -136,7 +137,7 @@ pub(crate) fn client_outcome(
         ClientDid::Gaps { id, .. } => {
             taken(false, head, Said::Tell(Mark::TooManyGaps { id }), false)
         }
-        ClientDid::Say { body, .. } => Outcome::of(Said::Post(body)),
+        ClientDid::Busy(_) => Outcome::of(Said::Post(Body::Busy)),
         ClientDid::Ack => {
             let more = More::empty();
             Outcome::of(Said::Post(Body::Ack { more }))
@@ -168,14 +169,11 @@ pub(crate) fn server_change(did: &ServerDid) -> Change
         ServerDid::Nothing | ServerDid::FullRows { .. } | ServerDid::FullPages { .. } => {
             Change::Nothing
         }
-        ServerDid::Touched(slot) | ServerDid::Opened(slot) | ServerDid::Gaps(slot) => {
-            Change::Stays(*slot)
-        }
+        ServerDid::Touched(slot) | ServerDid::Opened(slot) => Change::Stays(*slot),
+        ServerDid::Gaps(slot) | ServerDid::Busy(slot) => Change::Stays(*slot),
         ServerDid::Ran { slot, .. } => Change::Stays(*slot),
-        ServerDid::Say { slot, .. } => match slot {
-            Some(slot) => Change::Stays(*slot),
-            None => Change::Nothing,
-        },
+        ServerDid::Unknown(Some(slot)) => Change::Stays(*slot),
+        ServerDid::Unknown(None) => Change::Nothing,
     }
 }
 
@@ -193,7 +191,7 @@ pub(crate) fn server_outcome(
         → s.served ≡ limit → service ≡ service_in (piece_in p.body p.payload)
         → IfServerTouched did (λ _. touched ≡ version_there (piece_in p.body p.payload) row) → p.id ≡ id
         → IsOutcome (served_of s m id (piece_in p.body p.payload) row told a did) result }
-    ensures fits { IfServerSaid did IsAnswerBody → FitsSaid AsServer result.said }
+    ensures fits { FitsSaid AsServer result.said }
     ensures len { length_in head ≤ LONGEST_MESSAGE → IfSome result.opened (λ len. len ≤ LONGEST_MESSAGE) }
     ensures marks { outcome_marks result ≤ 3 }
     ensures frames { outcome_frames result ≤ 2 }
@@ -215,8 +213,17 @@ pub(crate) fn server_outcome(
             Outcome::of(Said::Tell(Mark::NoPages { id, need, free }))
         }
         ServerDid::Gaps(_) => taken(false, head, Said::Tell(Mark::TooManyGaps { id }), false),
-        ServerDid::Say { body, .. } => Outcome::of(Said::Post(body)),
+        ServerDid::Busy(_) => Outcome::of(Said::Post(Body::Busy)),
+        ServerDid::Unknown(slot) => Outcome::of(Said::Post(unknown(slot))),
     }
+}
+
+// The UNKNOWN about a call that has a tombstone in this slot, or no record.
+fn unknown(slot: Option<u32>) -> Body
+    ensures { result ≡ Body.Unknown (reason_for slot) }
+{
+    let reason = if slot.is_some() { 1 } else { 0 };
+    Body::Unknown { reason }
 }
 
 /// How many order numbers a packet took at its server.

@@ -82,6 +82,11 @@ abbrev pub version_there : Option Piece → Option ServerRow → Option ℕ
 version_there piece None = None
 version_there piece (Some row) = version_in_state piece row.state
 
+-- the reason of an UNKNOWN: a tombstone is in this slot, or there is no record of the call
+abbrev pub reason_for : Option ℕ → ℕ
+reason_for None = 0
+reason_for (Some slot) = 1
+
 -- What the plain rule did where this is answered: `row` is the call's row afterwards, `told` the request that became
 -- whole, and `a` what the service answered.
 abbrev pub served_of : Settings → Moment → CallId → Option Piece → Option ServerRow → List ℕ → Answer → ServerDid → Did ServerRow
@@ -98,7 +103,8 @@ served_of s m id piece row told a (did.Ran slot opened hold) =
 served_of s m id piece row told a (did.FullRows rows) = says m row (Tells (PlainFullRows m.host id rows s.served) ∷ [])
 served_of s m id piece row told a (did.FullPages need free) = says m row (Tells (PlainFullPages m.host id need free) ∷ [])
 served_of s m id piece row told a (did.Gaps slot) = record (leaves m row) { version = first_version piece; says = Tells (PlainGaps m.host id) ∷ [] }
-served_of s m id piece row told a (did.Say slot what) = says m row (Posts what ∷ [])
+served_of s m id piece row told a (did.Busy slot) = says m row (Posts body.Busy ∷ [])
+served_of s m id piece row told a (did.Unknown slot) = says m row (Posts (body.Unknown (reason_for slot)) ∷ [])
 
 -- the slot that an answer names is the place of the call's row
 abbrev pub IsSlotOf : Option ℕ → ServerDid → Type 0
@@ -109,7 +115,8 @@ IsSlotOf place (did.Ran slot opened hold) = place ≡ Some slot
 IsSlotOf place (did.FullRows rows) = Unit {0}
 IsSlotOf place (did.FullPages need free) = Unit {0}
 IsSlotOf place (did.Gaps slot) = place ≡ Some slot
-IsSlotOf place (did.Say slot what) = place ≡ slot
+IsSlotOf place (did.Busy slot) = place ≡ Some slot
+IsSlotOf place (did.Unknown slot) = place ≡ slot
 
 -- that slot, where it names one; an answer that names none leaves all as it was
 abbrev pub slot_in : ServerDid → Option ℕ
@@ -120,7 +127,8 @@ slot_in (did.Ran slot opened hold) = Some slot
 slot_in (did.FullRows rows) = None
 slot_in (did.FullPages need free) = None
 slot_in (did.Gaps slot) = Some slot
-slot_in (did.Say slot what) = slot
+slot_in (did.Busy slot) = Some slot
+slot_in (did.Unknown slot) = slot
 
 -- whether the service ran
 abbrev pub has_run : ServerDid → Bool
@@ -131,7 +139,8 @@ has_run (did.Ran slot opened hold) = true
 has_run (did.FullRows rows) = false
 has_run (did.FullPages need free) = false
 has_run (did.Gaps slot) = false
-has_run (did.Say slot what) = false
+has_run (did.Busy slot) = false
+has_run (did.Unknown slot) = false
 
 -- a fact of the hold, where the service ran
 abbrev pub IfRan : ServerDid → (ℕ → Type 0) → Type 0
@@ -142,34 +151,18 @@ IfRan (did.Ran slot opened hold) P = P hold
 IfRan (did.FullRows rows) P = Unit {0}
 IfRan (did.FullPages need free) P = Unit {0}
 IfRan (did.Gaps slot) P = Unit {0}
-IfRan (did.Say slot what) P = Unit {0}
+IfRan (did.Busy slot) P = Unit {0}
+IfRan (did.Unknown slot) P = Unit {0}
 
 -- what the service answered is this response, with the hold that is told; where it wasn't asked, anything
 abbrev pub IsReply : List ℕ → Answer → ServerDid → Type 0
 IsReply response a answer = IfRan answer (λ hold. a ≡ record { bytes = response; hold = hold })
-
--- a fact of what is said
-abbrev pub IfSaid : ServerDid → (Body → Type 0) → Type 0
-IfSaid did.Nothing P = Unit {0}
-IfSaid (did.Touched slot) P = Unit {0}
-IfSaid (did.Opened slot) P = Unit {0}
-IfSaid (did.Ran slot opened hold) P = Unit {0}
-IfSaid (did.FullRows rows) P = Unit {0}
-IfSaid (did.FullPages need free) P = Unit {0}
-IfSaid (did.Gaps slot) P = Unit {0}
-IfSaid (did.Say slot what) P = P what
 
 -- a row can take this response with this hold
 pub record CanReply (response : List ℕ) (ticks : ℕ) : Type 0 where
   pub some : 0 < length response
   pub size : length response ≤ longest_message
   pub hold : ticks ≤ longest_hold
-
--- a server answers BUSY, or that it doesn't know the call
-abbrev pub IsAnswerBody : Body → Type 0
-IsAnswerBody body.Busy = Unit {0}
-IsAnswerBody (body.Unknown reason) = reason ≤ 1
-IsAnswerBody what = ⊥
 
 -- for each answer of the service that is the response in the row, where it ran, the plain rule did what is answered
 abbrev pub IsAnswered : Settings → Moment → CallId → Option Piece → (Answer → Did ServerRow) → Option ServerRow → List ℕ → List ℕ → ServerDid → Type 0

@@ -11,7 +11,7 @@ use Rattle.homa_in.specs.Part.{Part}
 use Rattle.homa_in.specs.Pieces.{piece_in}
 use Rattle.homa_in.specs.Pooled.{IsInPool, Moves}
 use Rattle.homa_server.specs.Held.{HeldServer, state_part}
-use Rattle.homa_server.specs.Answers.{IfRan, IfSaid, IsAnswerBody, IsAsked, IsSlotOf, has_run, service_in, slot_if, slot_in}
+use Rattle.homa_server.specs.Answers.{IfRan, IsAsked, IsSlotOf, has_run, service_in, slot_if, slot_in}
 use Rattle.homa_server.specs.Table.{Servers, Served, packet_of, server_at, server_moment}
 use Rattle.homa_server.specs.declared.answers.ServerDid.{ServerDid}
 use Rattle.homa_server.specs.declared.lent.Lent.{Lent}
@@ -42,7 +42,6 @@ pub record IsRefused {S : Type 0} (served : S → ℕ) (old new : Lent S) : Type
 -- what an answer says of the row at a place, and what became of the row and the pool; whether the packet is for the row is given
 pub record IsLeft (place : ℕ) (wanted : Bool) (old : HeldServer) (pool : Pool) (new : HeldServer) (pool' : Pool) (did : ServerDid) : Type 0 where
   pub slot : IsSlotOf (Some place) did
-  pub says : IfSaid did IsAnswerBody
   pub named : slot_in did ≡ slot_if wanted place
   pub idle : slot_in did ≡ None → (new ≡ old) × (pool' ≡ pool)
   pub moves : Moves pool (state_part old.state) pool' (state_part new.state)

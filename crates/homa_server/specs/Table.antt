@@ -22,7 +22,7 @@ use Rattle.host_places.specs.Mapped.{mapped}
 use Rattle.host_places.specs.Placed.{Placed, Table, Changed, rows_code}
 use Rattle.homa_server.specs.Held.{HeldServer, server_code, seen_server, state_part, response_in}
 use Rattle.homa_in.specs.Pieces.{piece_in, moment_with}
-use Rattle.homa_server.specs.Answers.{IsAnswered, IsAnswerBody, IsSlotOf, slot_in, slot_if, is_for, IfRan, IfSaid}
+use Rattle.homa_server.specs.Answers.{IsAnswered, IsSlotOf, slot_in, slot_if, is_for, IfRan}
 use Rattle.homa_server.specs.declared.answers.ServerDid.{ServerDid}
 
 -- the rows of a server at their places, by their calls
@@ -101,5 +101,4 @@ pub record Served (old : Servers) (pool : Pool) (p : Packet) (now order : ℕ) (
   pub slot : IsSlotOf (slot_at new.rows p.id) answer
   pub named : IsSome (get old.rows p.id) → slot_in answer ≡ slot_for old.rows p
   pub same : slot_in answer ≡ None → (new ≡ old) × (pool' ≡ pool)
-  pub said : IfSaid answer IsAnswerBody
   pub moved : ServerMoved p.id old pool new pool' (server_at pool' new.rows p.id)

@@ -1,6 +1,6 @@
 // What the calls of a server answer.
 // Rules: the answers that stand for BUSY, UNKNOWN, RESEND, NEED_ACK and a tombstone.
-use homa_plain::{Body, CallId};
+use homa_plain::CallId;
 
 /// What a packet did.
 #[derive(Debug, PartialEq, Eq, Drop)]
@@ -20,8 +20,10 @@ pub enum ServerDid {
     FullPages { need: u32, free: u32 },
     /// The request in this slot would have been left with more than 64 gaps, and the piece wasn't taken.
     Gaps(u32),
-    /// The client is to be told this: BUSY, or UNKNOWN. The slot is none where the call has no row.
-    Say { slot: Option<u32>, body: Body },
+    /// The client is to be told BUSY: the row in this slot can't give yet what the packet asks for.
+    Busy(u32),
+    /// The client is to be told UNKNOWN: a tombstone of the call is in this slot, or the call has no row.
+    Unknown(Option<u32>),
 }
 
 /// What a row did whose timer was due.

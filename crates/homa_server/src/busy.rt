@@ -12,7 +12,7 @@ ghost use Rattle.homa_plain.specs.AtServer.{held_gets};
 ghost use Rattle.homa_in.specs.Pieces.{piece_in};
 ghost use Rattle.homa_server.specs.Held.{Arriving, IfArriving, is_arriving};
 ghost use Rattle.homa_server.specs.Answers.{IsAnswered, has_run, IsSlotOf, slot_in, slot_if};
-ghost use Rattle.homa_server.specs.Answers.{is_resend, IfSaid, IsAnswerBody};
+ghost use Rattle.homa_server.specs.Answers.{is_resend};
 
 use crate::ServerDid;
 use crate::row::Row;
@@ -23,14 +23,14 @@ impl Row {
     // A RESEND of a call whose request still arrives: the client was heard of, but its request is no further.
     pub(crate) fn receiving_resend(&mut self, slot: u32) -> ServerDid
         requires arriving { is_arriving self.old.state ≡ true }
-        ensures busy { result ≡ ServerDid.Say (Some slot) Body.Busy }
+        ensures busy { result ≡ ServerDid.Busy slot }
         ensures tries { IfArriving self.old.state (λ wanted part base count. self.new ≡ record self.old { state = Arriving wanted part base 0 }) }
     {
         let State::Receiving { count, .. } = &mut self.state else {
             unreachable!()
         };
         *count = 0;
-        busy(slot)
+        ServerDid::Busy(slot)
     }
 }
 
@@ -40,21 +40,10 @@ pub(crate) fn held_gets(slot: u32, body: &Body) -> ServerDid
         → IsAnswered s m id (piece_in body.now payload) (λ a. held_gets m body.now row) (Some row) response told result }
     ensures slot { IsSlotOf (Some slot) result }
     ensures named { slot_in result ≡ slot_if (is_resend body.now) slot }
-    ensures says { IfSaid result IsAnswerBody }
     ensures not_run { has_run result ≡ false }
 {
     match body {
-        Body::Resend { .. } => busy(slot),
+        Body::Resend { .. } => ServerDid::Busy(slot),
         _ => ServerDid::Nothing,
-    }
-}
-
-// The answer to a client that is to wait.
-pub(crate) fn busy(slot: u32) -> ServerDid
-    ensures { result ≡ ServerDid.Say (Some slot) Body.Busy }
-{
-    ServerDid::Say {
-        slot: Some(slot),
-        body: Body::Busy,
     }
 }

@@ -18,12 +18,12 @@ ghost use Rattle.homa_server.specs.Held.{Arriving, Keeping, Answering, IfArrivin
 ghost use Rattle.homa_server.specs.Held.{is_answering, state_part, response_in, seen_state, seen_server};
 ghost use Rattle.homa_in.specs.Pieces.{piece_in, IsFit, moment_with};
 ghost use Rattle.homa_server.specs.Answers.{IsAnswered, has_run, IsSlotOf, slot_in, slot_if, is_for};
-ghost use Rattle.homa_server.specs.Answers.{is_ack, service_in, IsAsked, IfSaid, IsAnswerBody};
+ghost use Rattle.homa_server.specs.Answers.{is_ack, service_in, IsAsked};
 ghost use Rattle.homa_server.specs.Lending.{CanServe, IsLeft, IsSame, IsServed, IsRefused};
 ghost use Rattle.homa_server.specs.Answers.{CanReply, IsAsking};
 
 use crate::ServerDid;
-use crate::busy::{busy, held_gets};
+use crate::busy::held_gets;
 use crate::lent::Lent;
 use crate::row::Row;
 use crate::state::{State, answered};
@@ -206,7 +206,6 @@ impl Row {
             IsAnswered s m id (piece_in body.now payload) (λ a. replying_gets m body.now (seen_server pool self.old) response out sent)
             (Some (seen_server pool self.new)) (response_in self.new.state) told result) }
         ensures slot { IsSlotOf (Some slot) result }
-        ensures says { IfSaid result IsAnswerBody }
         ensures named { slot_in result ≡ slot_if (not (is_ack body.now)) slot }
         ensures idle { slot_in result ≡ None → self.new ≡ self.old }
         ensures part { state_part self.new.state ≡ None }
@@ -233,7 +232,7 @@ impl Row {
             }
             Body::Resend { from, to, prio } => match out.resend(*from, *to, *prio) {
                 Resent::Queued => ServerDid::Touched(slot),
-                Resent::Busy => busy(slot),
+                Resent::Busy => ServerDid::Busy(slot),
             },
             _ => ServerDid::Touched(slot),
         }

@@ -9,7 +9,7 @@ ghost use Rattle.homa_plain.specs.Rules.{Moment as PlainMoment};
 ghost use Rattle.homa_plain.specs.Unknown.{buried_gets};
 ghost use Rattle.homa_in.specs.Pieces.{piece_in};
 ghost use Rattle.homa_server.specs.Answers.{IsAnswered, has_run, IsSlotOf, slot_in, slot_if};
-ghost use Rattle.homa_server.specs.Answers.{is_data, is_resend, IfSaid, IsAnswerBody};
+ghost use Rattle.homa_server.specs.Answers.{is_data, is_resend};
 ghost use Rattle.homa_plain.specs.AtServer.{unknown_gets};
 
 use crate::ServerDid;
@@ -21,14 +21,10 @@ pub(crate) fn buried_gets(slot: u32, body: &Body) -> ServerDid
         → IsAnswered s m id (piece_in body.now payload) (λ a. buried_gets m body.now row) (Some row) response told result }
     ensures slot { IsSlotOf (Some slot) result }
     ensures named { slot_in result ≡ slot_if (is_data body.now || is_resend body.now) slot }
-    ensures says { IfSaid result IsAnswerBody }
     ensures not_run { has_run result ≡ false }
 {
     match body {
-        Body::Data { .. } | Body::Resend { .. } => ServerDid::Say {
-            slot: Some(slot),
-            body: Body::Unknown { reason: 1 },
-        },
+        Body::Data { .. } | Body::Resend { .. } => ServerDid::Unknown(Some(slot)),
         _ => ServerDid::Nothing,
     }
 }
@@ -39,14 +35,10 @@ pub(crate) fn no_record(body: &Body) -> ServerDid
     ensures did { (s : Settings) (m : PlainMoment) (id : CallId) (payload response told : List ℕ)
         → IsAnswered s m id (piece_in body.now payload) (λ a. unknown_gets s m id body.now payload a) None response told result }
     ensures slot { IsSlotOf None result }
-    ensures says { IfSaid result IsAnswerBody }
     ensures not_run { has_run result ≡ false }
 {
     match body {
-        Body::Resend { .. } => ServerDid::Say {
-            slot: None,
-            body: Body::Unknown { reason: 0 },
-        },
+        Body::Resend { .. } => ServerDid::Unknown(None),
         _ => ServerDid::Nothing,
     }
 }
