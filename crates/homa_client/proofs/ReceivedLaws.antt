@@ -6,7 +6,6 @@ use Rattle.homa_plain.specs.declared.id.CallId.{CallId}
 use Rattle.homa_plain.specs.declared.id.HostId.{HostId}
 use Rattle.homa_plain.specs.declared.packet.Role.{Role}
 use Rattle.homa_plain.specs.declared.packet.Role.TheVariants.{Server}
-use Rattle.homa_plain.specs.declared.packet.Body.TheVariants as body
 use Rattle.homa_plain.specs.declared.packet.Packet.{Packet as WirePacket}
 use Rattle.homa_plain.specs.Calls.{is_host}
 use Rattle.homa_plain.specs.Packets.{Packet, sender, packet_between, call_between, server_between}
@@ -22,7 +21,7 @@ use Rattle.homa_in.specs.Pieces.{piece_in}
 use Rattle.homa_in.proofs.MoveLaws.{still}
 use Rattle.homa_client.specs.Held.{HeldRow, seen_row}
 use Rattle.homa_client.specs.Gives.{Gave, HasNone, moment_of, did_of}
-use Rattle.homa_client.specs.AtTable.{Clients, row_at, part_at, Moved, Received, answer_of, slot_in, IfSaid, HasLeft, told_of, rows_left}
+use Rattle.homa_client.specs.AtTable.{Clients, row_at, part_at, Moved, Received, answer_of, slot_in, HasLeft, told_of, rows_left}
 use Rattle.homa_client.specs.declared.answers.ClientDid.{ClientDid}
 use Rattle.homa_client.specs.declared.answers.ClientDid.TheVariants.{Nothing}
 use Rattle.homa_client.specs.declared.answers.ClientDid.TheVariants as did
@@ -78,7 +77,7 @@ nothing_left (did.Opened slot) row e = cc
 nothing_left (did.Done slot id opened) row e = cc
 nothing_left (did.Full slot id need free) row e = cc
 nothing_left (did.Gaps slot id) row e = cc
-nothing_left (did.Say slot what) row e = cc
+nothing_left (did.Busy slot) row e = cc
 nothing_left did.Ack row e = tt
 nothing_left (did.Forgotten slot id) row e = cc
 
@@ -90,10 +89,9 @@ module _ (t : Clients) (pool : Pool) (p : Packet) (now order : ℕ) (told : List
 
   -- the call isn't live
   pub received_none : get t.rows p.id ≡ None → (answer : ClientDid) → ((m : Moment) → unasked m p.body ≡ answer_of m p None told answer)
-      → slot_in answer ≡ None → IfSaid answer (λ what. what ≡ body.Busy)
-      → Received t pool p now order t pool told answer
+      → slot_in answer ≡ None → Received t pool p now order t pool told answer
   unfolding client_gets
-  received_none none answer did slot said = record {
+  received_none none answer did slot = record {
     did = λ rows.
         let m = moment_of t.host now order pool (part_at t.rows p.id) rows in
         subst (λ (o : Option ClientRow). client_gets t.settings m p o ≡ answer_of m p o told answer)
@@ -101,7 +99,6 @@ module _ (t : Clients) (pool : Pool) (p : Packet) (now order : ℕ) (told : List
     slot = slot ∙ sym (ap (taking p) none);
     same = λ _. (refl, refl);
     left = nothing_left answer (row_at pool t.rows p.id) slot;
-    said = said;
     moved = stays;
   }
 
@@ -118,7 +115,6 @@ module _ (t : Clients) (pool : Pool) (p : Packet) (now order : ℕ) (told : List
     slot = sym (ap (taking p) stands ∙ ap (λ b. cond b (Some slot) None) (sym refused));
     same = λ _. (refl, refl);
     left = tt;
-    said = tt;
     moved = stays;
   } where
     other : (a b : Bool) → false ≡ (a && not b) → (x y : Did ClientRow) → cond (not a) x (cond b x y) ≡ x
@@ -167,15 +163,6 @@ left_is slot id (Full need free) row = refl
 left_is slot id Gaps row = refl
 left_is slot id Busy row = refl
 left_is slot id Forgotten row = refl
-
-said_is : (slot : ℕ) (id : CallId) (d : RowDid) → IfSaid (told_of slot id d) (λ what. what ≡ body.Busy)
-said_is slot id Touched = tt
-said_is slot id Opened = tt
-said_is slot id (Done opened) = tt
-said_is slot id (Full need free) = tt
-said_is slot id Gaps = tt
-said_is slot id Busy = refl
-said_is slot id Forgotten = tt
 
 module _ (t : Clients) (room : ℕ) (placed : ArePlaced room t.rows) (id : CallId) (slot : ℕ) (r new : HeldRow) (stands : StandsAt t.rows id slot r)
     (pool pool' : Pool) (are : AreIn pool (part_at t.rows))
@@ -236,7 +223,6 @@ module _ (t : Clients) (room : ℕ) (placed : ArePlaced room t.rows) (p : Packet
     left =
         let here = row_left_at t room placed p.id slot r new stands pool pool' are (gave 0).moves d in
         subst (λ (o : Option ClientRow). HasLeft (told_of slot p.id d) o) (sym here) (left_is slot p.id d (seen_row pool' new));
-    said = said_is slot p.id d;
     moved =
         let here = row_left_at t room placed p.id slot r new stands pool pool' are (gave 0).moves d in
         subst (λ (o : Option ClientRow). Moved p.id t pool (record t { rows = rows_left (set_at t.rows slot new) p.id d }) pool' o) (sym here)

@@ -24,7 +24,7 @@ use Rattle.host_places.proofs.PlacedLaws.{changed-new, changed-none, get-insert_
 use Rattle.homa_in.specs.Pieces.{piece_in, moment_with}
 use Rattle.homa_in.specs.Pooled.{Moves, AreIn, pages_of}
 use Rattle.homa_server.specs.Held.{HeldServer, seen_server, state_part, response_in}
-use Rattle.homa_server.specs.Answers.{IsAnswered, IsAnswerBody, IsReply, IsSlotOf, slot_in, IfRan, IfSaid, has_run, served_of, IsAsked, acked_of}
+use Rattle.homa_server.specs.Answers.{IsAnswered, IsReply, IsSlotOf, slot_in, IfRan, has_run, served_of, IsAsked, acked_of}
 use Rattle.homa_server.specs.Table.{Servers, ServerRows, Served, packet_of, request_at, response_at, server_at, server_moment}
 use Rattle.homa_server.specs.declared.answers.ServerDid.{ServerDid}
 use Rattle.homa_server.specs.declared.answers.ServerDid.TheVariants as did
@@ -39,7 +39,8 @@ no_run (did.Ran slot opened hold) P e = absurd (true≢false e)
 no_run (did.FullRows rows) P e = tt
 no_run (did.FullPages need free) P e = tt
 no_run (did.Gaps slot) P e = tt
-no_run (did.Say slot what) P e = tt
+no_run (did.Busy slot) P e = tt
+no_run (did.Unknown slot) P e = tt
 
 -- a slot that is named is one
 pub slot_named : (slot : ℕ) → ◌≡◌ {A = Option ℕ} (Some slot) None → ⊥
@@ -112,15 +113,14 @@ module _ (t : Servers) (id : CallId) (none : get t.rows id ≡ None) where
         -- no row is made
         pub served_none : Moves pool None pool' None
             → IsAnswered t.settings m id (piece_in what payload) (λ (a : Answer). unknown_gets t.settings m id what payload a) None [] told answer
-            → IsSlotOf None answer → IfSaid answer IsAnswerBody → has_run answer ≡ false → pool' ≡ pool → Served t pool p now order t pool' told allowed answer
-        served_none moves did here said silent idle = record {
+            → IsSlotOf None answer → has_run answer ≡ false → pool' ≡ pool → Served t pool p now order t pool' told allowed answer
+        served_none moves did here silent idle = record {
           did = answered t.rows None [] (server_none pool')
               (ap (λ (o : Option (Placed HeldServer)). option_map_or (λ (x : Placed HeldServer). response_in x.row.state) o []) none) did;
           ran = no_run answer (λ hold. allowed told (response_at t.rows id) hold) silent;
           slot = subst (λ (o : Option ℕ). IsSlotOf o answer) (sym (ap (option_map (λ (x : Placed HeldServer). x.place)) none)) here;
           named = λ some. absurd (true≢false (sym some ∙ ap is_some none));
           same = λ none. (refl, idle);
-          said = said;
           moved = server_moved t t.rows pool pool' id _ are (subst (λ (o : Option Part). Moves pool o pool' o) (sym request_none) moves)
               (changed-none t.rows id) refl;
         }
@@ -144,10 +144,10 @@ module _ (t : Servers) (id : CallId) (none : get t.rows id ≡ None) where
 
           pub served_new : IsAnswered t.settings m id (piece_in what payload) (λ (a : Answer). unknown_gets t.settings m id what payload a)
               (Some (seen_server pool' row)) (response_in row.state) told answer
-              → IsSlotOf (Some place) answer → (slot_in answer ≡ None → ⊥) → IfSaid answer IsAnswerBody
+              → IsSlotOf (Some place) answer → (slot_in answer ≡ None → ⊥)
               → IfRan answer (λ hold. allowed told (response_in row.state) hold)
               → Served t pool p now order (record t { rows = rows }) pool' told allowed answer
-          served_new did here named said ran =
+          served_new did here named ran =
               let response : response_at rows id ≡ response_in row.state =
               ap (λ (o : Option (Placed HeldServer)). option_map_or (λ (x : Placed HeldServer). response_in x.row.state) o []) row_new in
               record {
@@ -157,7 +157,6 @@ module _ (t : Servers) (id : CallId) (none : get t.rows id ≡ None) where
                 slot = subst (λ (o : Option ℕ). IsSlotOf o answer) (sym (ap (option_map (λ (x : Placed HeldServer). x.place)) row_new)) here;
                 named = λ some. absurd (true≢false (sym some ∙ ap is_some none));
                 same = λ idle. absurd (named idle);
-                said = said;
                 moved = server_moved t rows pool pool' id _ are moves_new (changed-new t.rows id _ none) refl;
               }
 
@@ -187,27 +186,26 @@ module _ (t seen : Servers) (is : t ≡ seen) (id : CallId) (none : get seen.row
     are_here : AreIn pool (request_at t.rows)
     are_here = subst (λ (x : Servers). AreIn pool (request_at x.rows)) (sym is) are
 
-    pub seen_none : Moves pool None pool' None → IsGiven None [] → IsSlotOf None answer → IfSaid answer IsAnswerBody → has_run answer ≡ false → pool' ≡ pool
+    pub seen_none : Moves pool None pool' None → IsGiven None [] → IsSlotOf None answer → has_run answer ≡ false → pool' ≡ pool
         → (role : Role) (server : HostId) (inc at level : ℕ)
         → Served seen pool (packet_of id what payload role server inc at level) now order seen pool' told allowed answer
-    seen_none moves did here said silent idle role server inc at level =
+    seen_none moves did here silent idle role server inc at level =
         subst (λ (x : Servers). Served x pool (packet_of id what payload role server inc at level) now order x pool' told allowed answer) is
-        (served_none t id none_here now order pool what payload role server inc at level pool' told allowed answer are_here moves did here said silent idle)
+        (served_none t id none_here now order pool what payload role server inc at level pool' told allowed answer are_here moves did here silent idle)
 
     module _ (place : ℕ) (row : HeldServer) (after : ServerRows) (made : after ≡ insert t.rows id (record { place = place; row = row }))
         (moves : Moves pool None pool' (state_part row.state)) where
       pub seen_new : IsGiven (Some (seen_server pool' row)) (response_in row.state) → IsSlotOf (Some place) answer → (slot_in answer ≡ None → ⊥)
-          → IfSaid answer IsAnswerBody
           → IfRan answer (λ hold. allowed told (response_in row.state) hold)
           → (role : Role) (server : HostId) (inc at level : ℕ) → Served seen pool (packet_of id what payload role server inc at level) now order
           (record t { rows = after }) pool' told allowed answer
-      seen_new did here named said ran role server inc at level =
+      seen_new did here named ran role server inc at level =
           subst (λ (x : Servers). Served x pool (packet_of id what payload role server inc at level) now order
           (record t { rows = after }) pool' told allowed answer) is
           (subst (λ (rows : ServerRows). Served t pool (packet_of id what payload role server inc at level) now order
           (record t { rows = rows }) pool' told allowed answer) (sym made)
           (served_new t id none_here now order pool what payload role server inc at level pool' told allowed answer are_here place row moves did here
-          named said ran))
+          named ran))
 
       pub seen_still : AreIn pool' (request_at after)
       seen_still =

@@ -19,7 +19,7 @@ use Rattle.host_places.proofs.PlacedLaws.{one_call, set_at-insert, get-insert_he
 use Rattle.homa_in.specs.Pooled.{Moves, AreIn}
 use Rattle.homa_server.specs.Held.{HeldServer, seen_state, seen_server, state_part, response_in}
 use Rattle.homa_in.specs.Pieces.{piece_in, moment_with}
-use Rattle.homa_server.specs.Answers.{IsAnswered, IsAnswerBody, IsReply, IsSlotOf, slot_in, slot_if, is_for, IfRan, IfSaid, served_of, IsAsked}
+use Rattle.homa_server.specs.Answers.{IsAnswered, IsReply, IsSlotOf, slot_in, slot_if, is_for, IfRan, served_of, IsAsked}
 use Rattle.homa_server.specs.Table.{Servers, ServerRows, Served, packet_of, request_at, response_at, server_at, server_moment}
 use Rattle.homa_server.specs.declared.answers.ServerDid.{ServerDid}
 use Rattle.homa_server.proofs.StandLaws.{server_is, new_is, slot_new, server_new, moved_new}
@@ -81,12 +81,12 @@ module _ (room : ℕ) (rows : ServerRows) (slot : ℕ) (placed : ArePlaced room 
           → ((free n : ℕ) → let m = moment_with host now order free n in
           IsAnswered s m id (piece_in body payload) (λ a. row_gets s m id body payload a (seen_server pool r) (seen_state pool r.state))
           (Some (seen_server pool' after)) (response_in after.state) told answer)
-          → IsSlotOf (Some slot) answer → slot_in answer ≡ slot_if (is_for body r.state) slot → IfSaid answer IsAnswerBody
+          → IsSlotOf (Some slot) answer → slot_in answer ≡ slot_if (is_for body r.state) slot
           → (slot_in answer ≡ None → (after ≡ r) × (pool' ≡ pool)) → IfRan answer (λ hold. allowed told (response_in after.state) hold)
           → Served v pool (packet_of id body payload role server inc at level) now order (record { host = host; settings = s; rows = w }) pool' told
           allowed answer
       unfolding server_gets
-      served_at told allowed answer did here named said idle ran =
+      served_at told allowed answer did here named idle ran =
           let m = server_moment v now order pool id in
           record {
             did = λ a reply.
@@ -102,6 +102,5 @@ module _ (room : ℕ) (rows : ServerRows) (slot : ℕ) (placed : ArePlaced room 
                   ∙ ap (λ (m : ServerRows). record { host = host; settings = s; rows = m }) new-same,
               (idle none).1,
             );
-            said = said;
             moved = moved_new room rows slot placed host s id r stands pool pool' after are moves;
           }

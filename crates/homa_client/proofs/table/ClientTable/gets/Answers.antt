@@ -23,7 +23,7 @@ returns-in_default-clause-received c =
     (between c.args.from c.args.packet.now c.args.payload.now c.call-id.result c.requires.role t c.call-id.ensures
     c.args.lent.now.pool.now c.args.at.now c.args.at.order _ _ _ _
     (received_none t c.args.lent.now.pool.now p c.args.at.now c.args.at.order c.args.lent.now.scratch.now are c.in_default.ensures.absent c.not_live.result
-    (λ m. c.not_live.ensures.did m p c.args.lent.now.scratch.now) c.not_live.ensures.slot c.not_live.ensures.said))
+    (λ m. c.not_live.ensures.did m p c.args.lent.now.scratch.now) c.not_live.ensures.slot))
 
 pub returns-then-not-takes-clause-received : goal.returns-then-not-takes-clause-received
 returns-then-not-takes-clause-received c =

@@ -52,7 +52,7 @@ returns-clause-taken g c =
           level c.args.at.now c.args.at.order c.args.lent.now.pool.now c.gets.new.lent.pool.now after are left.moves c.gets.new.lent.scratch.now
           (λ request response hold. g.V.Service.allows c.args.lent.now.service.now (g.V.Service.served c.args.lent.now.service.now)
           (service_in (piece_in c.args.body.now c.args.payload.now)) request response hold) answer
-          (did c.args.id t.host) left.slot left.named left.says left.idle served.allowed;
+          (did c.args.id t.host) left.slot left.named left.idle served.allowed;
       counted = served.counted;
     }))
 

@@ -21,7 +21,7 @@ returns-in_default g c = record {
         inc at level c.args.lent.now.pool.now c.args.lent.now.scratch.now _ c.no_record.result c.requires.pool
         (still c.args.lent.now.pool.now None tt)
         (c.no_record.ensures.did c.args.self.now.settings _ c.args.id c.args.payload.now [] c.args.lent.now.scratch.now)
-        c.no_record.ensures.slot c.no_record.ensures.says c.no_record.ensures.not_run refl;
+        c.no_record.ensures.slot c.no_record.ensures.not_run refl;
     counted = rw c.no_record.ensures.not_run refl;
   };
   asked = tt;
@@ -40,7 +40,7 @@ returns-then-rows-self-clause-taken g c =
           (still c.args.lent.now.pool.now None tt)
           (full_said t c.args.id c.args.at.now c.args.at.order c.args.lent.now.pool.now c.in-Data.length c.in-Data.offset c.in-Data.version c.in-Data.number
           c.args.payload.now c.in-Data.ack c.args.lent.now.scratch.now c.len-rows.result c.len-rows.ensures.len c.if-rows-self.true)
-          tt tt refl refl);
+          tt refl refl);
       counted = refl;
     })
 
@@ -71,7 +71,7 @@ returns-in-FullPages-clause-taken g c =
           (rw c.in-FullPages.is at c.in_ok-need.ensures.moves)
           ((rw c.in-FullPages.is at c.in_ok-need.ensures.did) c.args.id t.host (len t.rows) c.in-Data.version 0 refl
           (subst (λ (n : ℕ). n < t.settings.served) c.len-rows.ensures.len c.if-rows-self.false))
-          tt tt refl ((rw c.in-FullPages.is at c.in_ok-need.ensures.idle) refl));
+          tt refl ((rw c.in-FullPages.is at c.in_ok-need.ensures.idle) refl));
       counted = (rw c.in-FullPages.is at c.in_ok-need.ensures.served).counted;
     })
 
@@ -87,7 +87,7 @@ returns-in-Begun-clause-taken g c =
           (rw c.in-Begun.is at c.in_ok-need.ensures.moves)
           ((rw c.in-Begun.is at c.in_ok-need.ensures.did) c.args.id t.host (len t.rows) c.in-Data.version c.insert.result refl
           (subst (λ (n : ℕ). n < t.settings.served) c.len-rows.ensures.len c.if-rows-self.false))
-          refl (slot_named c.insert.result) tt tt);
+          refl (slot_named c.insert.result) tt);
       counted = (rw c.in-Begun.is at c.in_ok-need.ensures.served).counted;
     })
 
@@ -112,7 +112,7 @@ returns-in-Ran-clause-taken g c =
           (rw c.in-Ran.is at c.in_ok-need.ensures.moves)
           ((rw c.in-Ran.is at c.in_ok-need.ensures.did) c.args.id t.host (len t.rows) c.in-Data.version c.insert-in-Ran.result refl
           (subst (λ (n : ℕ). n < t.settings.served) c.len-rows.ensures.len c.if-rows-self.false))
-          refl (slot_named c.insert-in-Ran.result) tt (rw c.in-Ran.is at c.in_ok-need.ensures.served).allowed);
+          refl (slot_named c.insert-in-Ran.result) (rw c.in-Ran.is at c.in_ok-need.ensures.served).allowed);
       counted = (rw c.in-Ran.is at c.in_ok-need.ensures.served).counted;
     })
 
