@@ -52,7 +52,7 @@ answer_row m p row told (did.Done slot id true) = refl
 answer_row m p row told (did.Done slot id false) = refl
 answer_row m p row told (did.Full slot id need free) = refl
 answer_row m p row told (did.Gaps slot id) = refl
-answer_row m p row told (did.Say slot what) = refl
+answer_row m p row told (did.Busy slot) = refl
 answer_row m p row told did.Ack = refl
 answer_row m p row told (did.Forgotten slot id) = refl
 
@@ -64,7 +64,7 @@ answer_order m p row told (did.Done slot id true) = refl
 answer_order m p row told (did.Done slot id false) = omega arith
 answer_order m p row told (did.Full slot id need free) = omega arith
 answer_order m p row told (did.Gaps slot id) = omega arith
-answer_order m p row told (did.Say slot what) = omega arith
+answer_order m p row told (did.Busy slot) = omega arith
 answer_order m p row told did.Ack = omega arith
 answer_order m p row told (did.Forgotten slot id) = omega arith
 
@@ -76,7 +76,7 @@ answer_whole m p row told (did.Done slot id true) = (refl, tt)
 answer_whole m p row told (did.Done slot id false) = (refl, tt)
 answer_whole m p row told (did.Full slot id need free) = (tt, tt)
 answer_whole m p row told (did.Gaps slot id) = (tt, tt)
-answer_whole m p row told (did.Say slot what) = tt
+answer_whole m p row told (did.Busy slot) = tt
 answer_whole m p row told did.Ack = tt
 answer_whole m p row told (did.Forgotten slot id) = (tt, tt)
 
@@ -88,7 +88,7 @@ change_of (did.Opened n) slot row e left = (same_some n slot e, left)
 change_of (did.Done n id opened) slot row e left = (same_some n slot e, left)
 change_of (did.Full n id need free) slot row e left = (same_some n slot e, left)
 change_of (did.Gaps n id) slot row e left = (same_some n slot e, left)
-change_of (did.Say n what) slot row e left = (same_some n slot e, left)
+change_of (did.Busy n) slot row e left = (same_some n slot e, left)
 change_of did.Ack slot row e left = cc
 change_of (did.Forgotten n id) slot row e left = (same_some n slot e, left)
 
@@ -99,7 +99,7 @@ no_change (did.Opened n) e = cc
 no_change (did.Done n id opened) e = cc
 no_change (did.Full n id need free) e = cc
 no_change (did.Gaps n id) e = cc
-no_change (did.Say n what) e = cc
+no_change (did.Busy n) e = cc
 no_change did.Ack e = refl
 no_change (did.Forgotten n id) e = cc
 
@@ -110,7 +110,7 @@ no_orders (did.Opened n) e = cc
 no_orders (did.Done n id opened) e = cc
 no_orders (did.Full n id need free) e = cc
 no_orders (did.Gaps n id) e = cc
-no_orders (did.Say n what) e = cc
+no_orders (did.Busy n) e = cc
 no_orders did.Ack e = refl
 no_orders (did.Forgotten n id) e = cc
 
@@ -122,7 +122,7 @@ touched_stays P (did.Opened n) h = tt
 touched_stays P (did.Done n id opened) h = tt
 touched_stays P (did.Full n id need free) h = tt
 touched_stays P (did.Gaps n id) h = tt
-touched_stays P (did.Say n what) h = tt
+touched_stays P (did.Busy n) h = tt
 touched_stays P did.Ack h = tt
 touched_stays P (did.Forgotten n id) h = tt
 
@@ -135,7 +135,7 @@ touched_row X P (did.Opened n) slot row e left f k = tt
 touched_row X P (did.Done n id opened) slot row e left f k = tt
 touched_row X P (did.Full n id need free) slot row e left f k = tt
 touched_row X P (did.Gaps n id) slot row e left f k = tt
-touched_row X P (did.Say n what) slot row e left f k = tt
+touched_row X P (did.Busy n) slot row e left f k = tt
 touched_row X P did.Ack slot row e left f k = tt
 touched_row X P (did.Forgotten n id) slot row e left f k = tt
 

@@ -84,4 +84,5 @@ quiet_settled id d number head touched c frames sound quiet = record {
   step (did.FullRows rows) touched quiet m p row told a w is of there named at = cc
   step (did.FullPages need free) touched quiet m p row told a w is of there named at = cc
   step (did.Gaps slot) touched quiet m p row told a w is of there named at = cc
-  step (did.Say slot what) touched quiet m p row told a w is of there named at = cc
+  step (did.Busy slot) touched quiet m p row told a w is of there named at = cc
+  step (did.Unknown slot) touched quiet m p row told a w is of there named at = cc

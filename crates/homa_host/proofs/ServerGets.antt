@@ -70,7 +70,8 @@ reply_of (did.Ran slot opened hold) response = record { bytes = response; hold =
 reply_of (did.FullRows rows) response = record { bytes = []; hold = 0 }
 reply_of (did.FullPages need free) response = record { bytes = []; hold = 0 }
 reply_of (did.Gaps slot) response = record { bytes = []; hold = 0 }
-reply_of (did.Say slot what) response = record { bytes = []; hold = 0 }
+reply_of (did.Busy slot) response = record { bytes = []; hold = 0 }
+reply_of (did.Unknown slot) response = record { bytes = []; hold = 0 }
 
 pub is_reply_of : (d : ServerDid) (response : List ℕ) → IsReply response (reply_of d response) d
 is_reply_of did.Nothing response = tt
@@ -80,7 +81,8 @@ is_reply_of (did.Ran slot opened hold) response = refl
 is_reply_of (did.FullRows rows) response = tt
 is_reply_of (did.FullPages need free) response = tt
 is_reply_of (did.Gaps slot) response = tt
-is_reply_of (did.Say slot what) response = tt
+is_reply_of (did.Busy slot) response = tt
+is_reply_of (did.Unknown slot) response = tt
 
 module _ (s : Settings) (m : Moment) (id : CallId) (piece : Option Piece) (row : Option ServerRow) (told : List ℕ) (a : Answer) where
   answer_row : (d : ServerDid) → (served_of s m id piece row told a d).row ≡ row
@@ -92,7 +94,8 @@ module _ (s : Settings) (m : Moment) (id : CallId) (piece : Option Piece) (row :
   answer_row (did.FullRows rows) = refl
   answer_row (did.FullPages need free) = refl
   answer_row (did.Gaps slot) = refl
-  answer_row (did.Say slot what) = refl
+  answer_row (did.Busy slot) = refl
+  answer_row (did.Unknown slot) = refl
 
   one_more : (b : Bool) (n : ℕ) → cond b (n + 1) n ≡ n + one_if b
   one_more true n = refl
@@ -107,7 +110,8 @@ module _ (s : Settings) (m : Moment) (id : CallId) (piece : Option Piece) (row :
   answer_order (did.FullRows rows) = omega arith
   answer_order (did.FullPages need free) = omega arith
   answer_order (did.Gaps slot) = omega arith
-  answer_order (did.Say slot what) = omega arith
+  answer_order (did.Busy slot) = omega arith
+  answer_order (did.Unknown slot) = omega arith
 
 -- the row's change, by the answer
 change_of : (d : ServerDid) (slot : ℕ) (row : Option ServerRow) → slot_in d ≡ Some slot → IsSome row → IsServerChange (server_change d) slot row
@@ -118,8 +122,9 @@ change_of (did.Ran n opened hold) slot row e is = (same_some n slot e, is)
 change_of (did.FullRows rows) slot row e is = cc
 change_of (did.FullPages need free) slot row e is = cc
 change_of (did.Gaps n) slot row e is = (same_some n slot e, is)
-change_of (did.Say None what) slot row e is = cc
-change_of (did.Say (Some n) what) slot row e is = (same_some n slot e, is)
+change_of (did.Busy n) slot row e is = (same_some n slot e, is)
+change_of (did.Unknown None) slot row e is = cc
+change_of (did.Unknown (Some n)) slot row e is = (same_some n slot e, is)
 
 no_change : (d : ServerDid) → slot_in d ≡ None → server_change d ≡ Nothing
 no_change did.Nothing e = refl
@@ -129,8 +134,9 @@ no_change (did.Ran n opened hold) e = cc
 no_change (did.FullRows rows) e = refl
 no_change (did.FullPages need free) e = refl
 no_change (did.Gaps n) e = cc
-no_change (did.Say None what) e = refl
-no_change (did.Say (Some n) what) e = cc
+no_change (did.Busy n) e = cc
+no_change (did.Unknown None) e = refl
+no_change (did.Unknown (Some n)) e = cc
 
 no_orders : (d : ServerDid) → slot_in d ≡ None → server_orders d ≡ 0
 no_orders did.Nothing e = refl
@@ -140,7 +146,8 @@ no_orders (did.Ran n opened hold) e = cc
 no_orders (did.FullRows rows) e = refl
 no_orders (did.FullPages need free) e = refl
 no_orders (did.Gaps n) e = cc
-no_orders (did.Say n what) e = refl
+no_orders (did.Busy n) e = cc
+no_orders (did.Unknown n) e = refl
 
 slot_is : (d : ServerDid) (place : Option ℕ) (slot : ℕ) → IsSlotOf place d → slot_in d ≡ Some slot → place ≡ Some slot
 slot_is did.Nothing place slot is e = cc
@@ -150,7 +157,8 @@ slot_is (did.Ran n opened hold) place slot is e = is ∙ e
 slot_is (did.FullRows rows) place slot is e = cc
 slot_is (did.FullPages need free) place slot is e = cc
 slot_is (did.Gaps n) place slot is e = is ∙ e
-slot_is (did.Say n what) place slot is e = is ∙ e
+slot_is (did.Busy n) place slot is e = is ∙ e
+slot_is (did.Unknown n) place slot is e = is ∙ e
 
 -- a row that was touched stands
 pub touched_stays : (P : ℕ → Type 0) (d : ServerDid) → IfStays (server_change d) P → IfServerTouched d P
@@ -161,7 +169,8 @@ touched_stays P (did.Ran n opened hold) h = tt
 touched_stays P (did.FullRows rows) h = tt
 touched_stays P (did.FullPages need free) h = tt
 touched_stays P (did.Gaps n) h = tt
-touched_stays P (did.Say n what) h = tt
+touched_stays P (did.Busy n) h = tt
+touched_stays P (did.Unknown n) h = tt
 
 -- what is known of a row that was touched
 touched_row : (X : Type 0) (P : ℕ → Type 0) (d : ServerDid) (slot : ℕ) → slot_in d ≡ Some slot → IfServerTouched d P → (P slot → X) → IfServerTouched d (λ _. X)
@@ -172,7 +181,8 @@ touched_row X P (did.Ran n opened hold) slot e h k = tt
 touched_row X P (did.FullRows rows) slot e h k = tt
 touched_row X P (did.FullPages need free) slot e h k = tt
 touched_row X P (did.Gaps n) slot e h k = tt
-touched_row X P (did.Say n what) slot e h k = tt
+touched_row X P (did.Busy n) slot e h k = tt
+touched_row X P (did.Unknown n) slot e h k = tt
 
 -- the response of a call, as it is seen
 seen_response : (pool : Pool) (state : HeldState) → mark_response (seen_state pool state) ≡ held_response state

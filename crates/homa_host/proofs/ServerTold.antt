@@ -49,7 +49,8 @@ ran_or (did.Ran slot opened hold) = inl (slot, opened, hold, refl)
 ran_or (did.FullRows rows) = inr refl
 ran_or (did.FullPages need free) = inr refl
 ran_or (did.Gaps slot) = inr refl
-ran_or (did.Say slot what) = inr refl
+ran_or (did.Busy slot) = inr refl
+ran_or (did.Unknown slot) = inr refl
 
 any_reply : (d : ServerDid) → did_run d ≡ false → (response : List ℕ) (a : Answer) → IsReply response a d
 any_reply did.Nothing e response a = tt
@@ -59,7 +60,8 @@ any_reply (did.Ran slot opened hold) e response a = cc
 any_reply (did.FullRows rows) e response a = tt
 any_reply (did.FullPages need free) e response a = tt
 any_reply (did.Gaps slot) e response a = tt
-any_reply (did.Say slot what) e response a = tt
+any_reply (did.Busy slot) e response a = tt
+any_reply (did.Unknown slot) e response a = tt
 
 quiet_says : (s : Settings) (m : Moment) (id : CallId) (piece : Option Piece) (row : Option ServerRow) (told : List ℕ) (a : Answer) (d : ServerDid)
     → did_run d ≡ false → IsQuiet (served_of s m id piece row told a d).says
@@ -70,7 +72,8 @@ quiet_says s m id piece row told a (did.Ran slot opened hold) e = cc
 quiet_says s m id piece row told a (did.FullRows rows) e = (tt, tt)
 quiet_says s m id piece row told a (did.FullPages need free) e = (tt, tt)
 quiet_says s m id piece row told a (did.Gaps slot) e = (tt, tt)
-quiet_says s m id piece row told a (did.Say slot what) e = tt
+quiet_says s m id piece row told a (did.Busy slot) e = tt
+quiet_says s m id piece row told a (did.Unknown slot) e = tt
 
 module _ (s : Settings) (id : CallId) (piece : Option Piece) (row : Option ServerRow) (told response : List ℕ) (d : ServerDid) (w : Work)
     (before : AreQuiet w.told) (m : Moment)
