@@ -24,7 +24,7 @@ ghost use Rattle.homa_host.specs.Outcomes.{head_in, length_in, client_orders, If
 use crate::outcome::{PieceHead, client_change, client_orders, client_outcome, head_of};
 use crate::parts::{HostParts, follow_client};
 use homa_client::{ClientDid, ClientTable};
-use homa_plain::{Body, CallId, HostId, LONGEST_MESSAGE, Packet};
+use homa_plain::{CallId, HostId, LONGEST_MESSAGE, Packet};
 use host_state::Control;
 use host_view::Outbox;
 use msg_pool::Scratch;
