@@ -19,20 +19,20 @@ abbrev pub over : Settings → CallId → Work → Work
 over s id w = served s id (server_acked s (moment s id w) id (get w.host.servers id)) w
 
 -- of all these calls, these aren't over yet
-abbrev pub IsAcking : HostParts → List SentFrame → List CallId → HostParts → List SentFrame → List CallId → Type 0
-IsAcking old before all new after ids =
-    (w : Work) → Amid w old before → (v : Work) × Amid v new after × (acked old.control.settings ids v ≡ acked old.control.settings all w)
+abbrev pub IsAcking : HostParts → List CallId → HostParts → List CallId → Type 0
+IsAcking old all new ids =
+    (w : Work) (frames : List SentFrame) → Amid w old frames → (v : Work) × Amid v new frames × (acked old.control.settings ids v ≡ acked old.control.settings all w)
 
-pub acking_on : (old mid new : HostParts) (before between after : List SentFrame) (all ids : List CallId) (id : CallId)
-    → mid.control.settings ≡ old.control.settings → IsAcking old before all mid between (id ∷ ids)
-    → ((w : Work) → Amid w mid between → Amid (over mid.control.settings id w) new after) → IsAcking old before all new after ids
-acking_on old mid new before between after all ids id settings acking step w amid =
-    let t = acking w amid in
-    (over old.control.settings id t.0, subst (λ (s : Settings). Amid (over s id t.0) new after) settings (step t.0 t.1), t.2)
+pub acking_on : (old mid new : HostParts) (all ids : List CallId) (id : CallId)
+    → mid.control.settings ≡ old.control.settings → IsAcking old all mid (id ∷ ids)
+    → ((w : Work) (frames : List SentFrame) → Amid w mid frames → Amid (over mid.control.settings id w) new frames) → IsAcking old all new ids
+acking_on old mid new all ids id settings acking step w frames amid =
+    let t = acking w frames amid in
+    (over old.control.settings id t.0, subst (λ (s : Settings). Amid (over s id t.0) new frames) settings (step t.0 frames t.1), t.2)
 
-pub acking_done : (old new : HostParts) (before after : List SentFrame) (all : List CallId) → IsAcking old before all new after [] → (w : Work)
-    → Amid w old before → Amid (acked old.control.settings all w) new after
-acking_done old new before after all acking w amid = let t = acking w amid in subst (λ (v : Work). Amid v new after) t.2 t.1
+pub acking_done : (old new : HostParts) (all : List CallId) → IsAcking old all new [] → (w : Work) (frames : List SentFrame)
+    → Amid w old frames → Amid (acked old.control.settings all w) new frames
+acking_done old new all acking w frames amid = let t = acking w frames amid in subst (λ (v : Work). Amid v new frames) t.2 t.1
 
 -- what holds of all calls holds of each
 all_drop : (P : CallId → Type 0) (client : HostId) (n : ℕ) (calls : List (ℕ × ℕ)) → AllByRecursion P (calls_of client calls)

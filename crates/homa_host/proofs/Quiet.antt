@@ -1,16 +1,18 @@
 -- Nothing comes of a rule beside its row: what stands there is as before.
-use Rattle.std.proofs.Common.{◌≡◌, ℕ, true, false, refl, sym, subst, List, Option, Some, None, arith}
+use Rattle.std.proofs.Common.{◌≡◌, ℕ, true, false, refl, sym, subst, List, [], ◌∷◌, ◌++◌, Option, Some, None, arith}
 use Rattle.core.specs.Option.{is_some}
 use Rattle.homa_plain.specs.declared.id.CallId.{CallId}
 use Rattle.homa_plain.specs.declared.id.HostId.{HostId}
 use Rattle.homa_plain.specs.declared.settings.Settings.{Settings}
+use Rattle.homa_plain.specs.Entries.{PlainEntry}
 use Rattle.homa_plain.specs.Host.{Host}
 use Rattle.homa_plain.specs.Rows.{ClientRow, ServerRow, set_row}
 use Rattle.homa_plain.specs.Packets.{Packet}
-use Rattle.homa_plain.specs.Rules.{Moment, Answer, leaves}
+use Rattle.homa_plain.specs.Rules.{Moment, Answer, Tells, leaves, says}
 use Rattle.homa_plain.specs.Work.{Work}
 use Rattle.homa_plain.specs.Steps.{asked, served}
 use Rattle.host_view.specs.declared.outbox.SentFrame.{SentFrame}
+use Rattle.host_view.specs.Marks.{mark_of}
 use Rattle.homa_in.specs.Pieces.{piece_in}
 use Rattle.homa_server.specs.Answers.{version_there, service_in, served_of}
 use Rattle.homa_server.specs.declared.answers.ServerDid.{ServerDid}
@@ -19,7 +21,7 @@ use Rattle.host_state.specs.Control.{Control, IsAt, IsSound}
 use Rattle.homa_host.specs.Outcomes.{head_in, IfServerTouched}
 use Rattle.homa_host.specs.Settled.{SettledServer, is_quiet}
 use Rattle.homa_host.specs.declared.outcome.PieceHead.{PieceHead}
-use Rattle.host_state.proofs.At.{at-none}
+use Rattle.host_state.proofs.At.{at-none, at-told}
 
 -- what isn't there is none
 pub none_there : (o : Option ℕ) → is_some o ≡ false → o ≡ None
@@ -58,6 +60,14 @@ module _ (s : Settings) (id : CallId) (w : Work) (c : Control) (frames : List Se
       let h : Host = record w.host { order = m.order; servers = set_row w.host.servers id row } in
       subst (λ (v : Option ℕ). IsAt (served s id (record (leaves m row) { version = v }) w) c frames) (sym e)
       (at-none (record w { host = h }) c frames (at_rows h refl))
+
+  -- an entry at its server
+  pub served_told : (m : Moment) (row : Option ServerRow) (entry : PlainEntry) (d : Control) → d ≡ record c { marks = c.marks ++ mark_of entry ∷ [] }
+      → IsAt (served s id (says m row (Tells entry ∷ [])) w) d frames
+  unfolding served
+  served_told m row entry d e =
+      let h : Host = record w.host { order = m.order; servers = set_row w.host.servers id row } in
+      at-told (record w { host = h }) c d frames entry e (at_rows h refl)
 
 -- nothing has to be settled
 pub quiet_settled : (id : CallId) (d : ServerDid) (number : ℕ) (head : Option PieceHead) (touched : Option ℕ) (c : Control) (frames : List SentFrame)

@@ -1,7 +1,7 @@
 // What a datagram does that comes to a host.
 // Rules: a stale packet (version 2) does nothing, CUTOFFS are heard, an ACK makes tombstones, and each other packet
 // goes to its call.
-ghost use Rattle.std.specs.Prelude.{◌≡◌, ℕ, ◌+◌, ◌<◌, ◌≤◌, ◌^◌, List, length, IfErr, OnOk, OnErr};
+ghost use Rattle.std.specs.Prelude.{◌≡◌, ℕ, [], ◌+◌, ◌<◌, ◌≤◌, ◌^◌, List, length, IfErr, OnOk, OnErr};
 ghost use Rattle.std.specs.List.{AllByRecursion};
 ghost use Rattle.homa_plain.specs.declared.id.CallId.{CallId};
 ghost use Rattle.homa_plain.specs.declared.packet.Role.TheVariants.{Client as OfClient};
@@ -10,11 +10,12 @@ ghost use Rattle.homa_plain.specs.Packets.{acks, calls_of, packet_between};
 ghost use Rattle.homa_plain.specs.Rules.{Answer};
 ghost use Rattle.homa_plain.specs.Work.{Work, begun};
 ghost use Rattle.homa_plain.specs.Steps.{comes, acked};
+ghost use Rattle.host_view.specs.declared.outbox.SentFrame.{SentFrame};
 ghost use Rattle.host_view.specs.Marks.{response_of, IsReply, IsWhole};
 ghost use Rattle.host_view.specs.Done.{arriving};
 ghost use Rattle.homa_host.specs.Parts.{host_of, seen_of, IsKept};
 ghost use Rattle.homa_host.specs.Asking.{HasAsked};
-ghost use Rattle.homa_host.specs.Amid.{Amid, Steady, HasRoom, HasCome};
+ghost use Rattle.homa_host.specs.Amid.{Amid, Steady, HasCome};
 ghost use Rattle.homa_host.specs.Lending.{CanCome, IsSame, IsServed, IsRefused};
 
 use crate::Asked;
@@ -24,7 +25,7 @@ use crate::parts::HostParts;
 use homa_plain::{Body, CallId, HostId, Packet, Role};
 use homa_service::Service;
 use homa_wire::decode;
-use host_view::{Mark, Outbox};
+use host_view::Mark;
 use std::alloc::Global;
 
 impl HostParts {
@@ -72,7 +73,7 @@ impl HostParts {
             Role::Client => {
                 match self.server_gets(alloc, from, packet, payload, now, lent) {
                     Ok(()) => {
-                        self.acknowledged(from, packet, lent.out);
+                        self.acknowledged(from, packet);
                         Ok(())
                     }
                     Err(_) => {
@@ -123,19 +124,19 @@ impl HostParts {
     }
 
     // The calls that a packet of a client acknowledges are over, but for the packet's own.
-    fn acknowledged(&mut self, from: HostId, packet: &Packet, out: &mut Outbox)
+    fn acknowledged(&mut self, from: HostId, packet: &Packet)
         requires kept { IsKept self.old }
         requires from { from.0 < self.old.control.settings.hosts }
         requires formed { (payload : List ℕ) × IsWellFormed self.old.control.settings.wire packet.now payload }
         requires role { packet.now.role ≡ OfClient }
         requires order { self.old.order < 2 ^ 63 + 2 ^ 31 }
-        requires room { HasRoom 5 0 self.old out.old }
+        requires room { length self.old.control.marks + 5 ≤ 128 }
         ensures kept { IsKept self.new }
-        ensures step { (payload : List ℕ) (w : Work) → Amid w self.old out.old
-            → Amid (acked self.old.control.settings (acks (packet_between from self.old.control.id packet.now payload)) w) self.new out.new }
+        ensures step { (payload : List ℕ) (w : Work) (frames : List SentFrame) → Amid w self.old frames
+            → Amid (acked self.old.control.settings (acks (packet_between from self.old.control.id packet.now payload)) w) self.new frames }
         ensures others { (payload : List ℕ) (q : CallId) → AllByRecursion (λ id. q ≡ id → ⊥) (acks (packet_between from self.old.control.id packet.now payload))
             → response_of (host_of self.new) q ≡ response_of (host_of self.old) q }
-        ensures steady { Steady 5 0 0 self.old out.old self.new out.new }
+        ensures steady { Steady 5 0 0 self.old [] self.new [] }
     {
         let id = packet.call(from);
         match &packet.body {
@@ -149,31 +150,31 @@ impl HostParts {
                     seq: *seq,
                 };
                 if ridden != id {
-                    self.server_acked(ridden, out);
+                    self.server_acked(ridden);
                 }
             }
             Body::Ack { more } => {
-                self.server_acked(id, out);
-                self.all_acked(from, more.calls(), out);
+                self.server_acked(id);
+                self.all_acked(from, more.calls());
             }
             _ => {}
         }
     }
 
     // Calls of a client are over, one by one.
-    fn all_acked(&mut self, client: HostId, calls: &[(u32, u32)], out: &mut Outbox)
+    fn all_acked(&mut self, client: HostId, calls: &[(u32, u32)])
         requires kept { IsKept self.old }
         requires client { client.0 < self.old.control.settings.hosts }
         requires calls { AllByRecursion IsCall calls.now }
         requires few { length calls.now ≤ 4 }
         requires order { self.old.order < 2 ^ 63 + 2 ^ 31 }
-        requires room { HasRoom (length calls.now) 0 self.old out.old }
+        requires room { length self.old.control.marks + length calls.now ≤ 128 }
         ensures kept { IsKept self.new }
-        ensures step { (w : Work) → Amid w self.old out.old
-            → Amid (acked self.old.control.settings (calls_of client calls.now) w) self.new out.new }
+        ensures step { (w : Work) (frames : List SentFrame) → Amid w self.old frames
+            → Amid (acked self.old.control.settings (calls_of client calls.now) w) self.new frames }
         ensures others { (q : CallId) → AllByRecursion (λ id. q ≡ id → ⊥) (calls_of client calls.now)
             → response_of (host_of self.new) q ≡ response_of (host_of self.old) q }
-        ensures steady { Steady (length calls.now) 0 0 self.old out.old self.new out.new }
+        ensures steady { Steady (length calls.now) 0 0 self.old [] self.new [] }
     {
         for (inc, seq) in calls {
             let id = CallId {
@@ -181,7 +182,7 @@ impl HostParts {
                 inc: *inc,
                 seq: *seq,
             };
-            self.server_acked(id, out);
+            self.server_acked(id);
         }
     }
 }

@@ -1,11 +1,11 @@
 // What packets of clients do to the calls that a host serves.
 // Rules: DATA of a request, GRANT and RESEND of a response, BUSY, UNKNOWN, and an ACK, which leaves a tombstone.
-ghost use Rattle.std.specs.Prelude.{◌≡◌, ℕ, Option, None, ◌+◌, ◌<◌, ◌≤◌, ◌^◌, Some, List, length, OnOk, OnErr, IsSome};
+ghost use Rattle.std.specs.Prelude.{◌≡◌, ℕ, [], Option, None, ◌+◌, ◌<◌, ◌≤◌, ◌^◌, Some, List, length, OnOk, OnErr, IsSome};
 ghost use Rattle.std.specs.List.{AllByRecursion};
 ghost use Rattle.std.specs.Option.{option_map};
 ghost use Rattle.plain_sets.specs.Maps.{get};
 ghost use Rattle.homa_plain.specs.declared.id.CallId.{CallId};
-ghost use Rattle.homa_plain.specs.declared.packet.Role.TheVariants.{Client as OfClientRole, Server as AsServer};
+ghost use Rattle.homa_plain.specs.declared.packet.Role.TheVariants.{Client as OfClientRole};
 ghost use Rattle.homa_plain.specs.Wire.{IsWellFormed};
 ghost use Rattle.homa_plain.specs.Packets.{Packet as PlainPacket, packet_between};
 ghost use Rattle.homa_plain.specs.Rules.{Answer, Moment};
@@ -18,12 +18,13 @@ ghost use Rattle.homa_in.specs.Pieces.{piece_in};
 ghost use Rattle.host_places.specs.Placed.{StandsAt, spot_at};
 ghost use Rattle.homa_server.specs.Held.{HeldServer, seen_server};
 ghost use Rattle.homa_server.specs.Answers.{version_there, service_in, acked_of};
-ghost use Rattle.host_state.specs.Saying.{IsOutcome, FitsSaid, outcome_marks, outcome_frames};
+ghost use Rattle.host_state.specs.Control.{IsAt, IsSound};
 ghost use Rattle.homa_plain.specs.Rows.{ServerRow};
+ghost use Rattle.host_view.specs.declared.outbox.SentFrame.{SentFrame};
 ghost use Rattle.host_view.specs.Marks.{response_of, IsReply, IsWhole};
 ghost use Rattle.homa_host.specs.Parts.{host_of, seen_of, IsKept};
 ghost use Rattle.homa_host.specs.Asking.{HasAsked};
-ghost use Rattle.homa_host.specs.Amid.{Amid, Steady, HasRoom, HasCome};
+ghost use Rattle.homa_host.specs.Amid.{Amid, Steady, HasCome};
 ghost use Rattle.homa_host.specs.Lending.{CanCome, IsSame, IsServed, IsRefused};
 ghost use Rattle.homa_host.specs.ServerFollow.{acked_change};
 ghost use Rattle.homa_host.specs.Outcomes.{head_in, length_in, IfServerTouched};
@@ -35,7 +36,7 @@ use crate::parts::{HostParts, follow_server};
 use homa_plain::{Body, CallId, HostId, LONGEST_MESSAGE, Packet};
 use homa_server::{ServerDid, ServerTable};
 use homa_service::Service;
-use host_state::{Control, Outcome, Said};
+use host_state::Control;
 use host_view::{Mark, Outbox};
 use std::alloc::{AllocError, Global};
 
@@ -104,18 +105,18 @@ impl HostParts {
         Ok(())
     }
 
-    // The client of a call has finished it.
-    pub(crate) fn server_acked(&mut self, id: CallId, out: &mut Outbox)
+    // The client of a call has finished it. Nothing is sent, whatever was sent before.
+    pub(crate) fn server_acked(&mut self, id: CallId)
         requires kept { IsKept self.old }
         requires client { id.client.0 < self.old.control.settings.hosts }
         requires call { 1 ≤ id.inc }
         requires order { self.old.order < 2 ^ 63 + 2 ^ 32 }
-        requires room { HasRoom 1 0 self.old out.old }
+        requires room { length self.old.control.marks + 1 ≤ 128 }
         ensures kept { IsKept self.new }
-        ensures step { (w : Work) → Amid w self.old out.old → let s = self.old.control.settings in
-            Amid (served s id (server_acked s (moment s id w) id (get w.host.servers id)) w) self.new out.new }
+        ensures step { (w : Work) (frames : List SentFrame) → Amid w self.old frames → let s = self.old.control.settings in
+            Amid (served s id (server_acked s (moment s id w) id (get w.host.servers id)) w) self.new frames }
         ensures others { (q : CallId) → (q ≡ id → ⊥) → response_of (host_of self.new) q ≡ response_of (host_of self.old) q }
-        ensures steady { Steady 1 0 0 self.old out.old self.new out.new }
+        ensures steady { Steady 1 0 0 self.old [] self.new [] }
     {
         let settings = *self.control.settings();
         let now = self.control.last();
@@ -124,8 +125,7 @@ impl HostParts {
         let _rows = self.servers.rows();
         let change = acked_change(acked);
         follow_server(&mut self.books, &self.servers, settings.calls, change);
-        let outcome = acked_outcome(id, acked);
-        self.control.settle_server(id, outcome, out);
+        tell_buried(&mut self.control, id, acked);
     }
 }
 
@@ -199,16 +199,18 @@ fn acked_change(acked: Option<(u32, u64)>) -> Change
     }
 }
 
-// What comes of an ACK.
-fn acked_outcome(id: CallId, acked: Option<(u32, u64)>) -> Outcome
-    ensures outcome { (m : Moment) (row : Option ServerRow) → IsOutcome (acked_of m id row (option_map (λ x. x.1) acked)) result }
-    ensures fits { FitsSaid AsServer result.said }
-    ensures marks { outcome_marks result ≤ 1 }
-    ensures frames { outcome_frames result ≤ 0 }
-    ensures opened { result.opened ≡ None }
+// Tells of a call that an ACK buried up to a tick.
+fn tell_buried(control: &mut Control, id: CallId, acked: Option<(u32, u64)>)
+    requires room { length control.old.marks + 1 ≤ 128 }
+    ensures step { (m : Moment) (row : Option ServerRow) (w : Work) (frames : List SentFrame) → IsAt w control.old frames
+        → IsAt (served control.old.settings id (acked_of m id row (option_map (λ x. x.1) acked)) w) control.new frames }
+    ensures same { control.new ≡ record control.old { marks = control.new.marks } }
+    ensures marks { length control.new.marks ≤ length control.old.marks + 1 }
+    ensures sound { IsSound control.new }
 {
-    match acked {
-        Some((_, until)) => Outcome::of(Said::Tell(Mark::Entombed { id, until })),
-        None => Outcome::none(),
+    if let Some((_, until)) = acked {
+        control.tell(Mark::Entombed { id, until });
     }
+    // For the proof: the control is sound.
+    let _sound = control.settings();
 }

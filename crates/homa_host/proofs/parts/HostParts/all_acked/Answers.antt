@@ -10,7 +10,7 @@ loop-inc-init c = record {
   kept = c.requires.kept;
   steady = record { settings = refl; id = refl; last = refl; marks_told = omega arith; frames_sent = omega arith; order = omega arith };
   others = λ q all. refl;
-  rest = λ w amid. (w, amid, refl);
+  rest = λ w frames amid. (w, amid, refl);
 }
 
 pub loop-inc-preserved : goal.loop-inc-preserved
@@ -25,14 +25,14 @@ loop-inc-preserved c =
         id = s.id ∙ inv.steady.id;
         last = s.last ∙ inv.steady.last;
         marks_told = omega (arith, s.marks_told, inv.steady.marks_told);
-        frames_sent = omega (arith, s.frames_sent, inv.steady.frames_sent);
+        frames_sent = omega arith;
         order = omega (arith, s.order, inv.steady.order);
       };
       others = λ q all. c.server_acked.ensures.others q
           (at_call (λ (id : CallId). q ≡ id → ⊥) c.args.client c.args.calls.now c.loop-inc.inc-index c.loop-inc-test.true all) ∙ inv.others q all;
-      rest = acking_on c.args.self.now c.loop-inc.self c.server_acked.new.self c.args.out.now c.loop-inc.out c.server_acked.new.out
+      rest = acking_on c.args.self.now c.loop-inc.self c.server_acked.new.self
           (calls_of c.args.client c.args.calls.now) (calls_of c.args.client (drop (c.loop-inc.inc-index + 1) c.args.calls.now)) _ inv.steady.settings
-          (subst (IsAcking c.args.self.now c.args.out.now (calls_of c.args.client c.args.calls.now) c.loop-inc.self c.loop-inc.out) more inv.rest)
+          (subst (IsAcking c.args.self.now (calls_of c.args.client c.args.calls.now) c.loop-inc.self) more inv.rest)
           c.server_acked.ensures.step;
     }
 
@@ -40,5 +40,5 @@ pub returns-clause-step : goal.returns-clause-step
 returns-clause-step c =
     let inv = c.loop-inc.invariant in
     let end = ap (calls_of c.args.client) (drop_all c.loop-inc.inc-index c.args.calls.now c.loop-inc-test.false) in
-    acking_done c.args.self.now c.loop-inc.self c.args.out.now c.loop-inc.out (calls_of c.args.client c.args.calls.now)
-    (subst (IsAcking c.args.self.now c.args.out.now (calls_of c.args.client c.args.calls.now) c.loop-inc.self c.loop-inc.out) end inv.rest)
+    acking_done c.args.self.now c.loop-inc.self (calls_of c.args.client c.args.calls.now)
+    (subst (IsAcking c.args.self.now (calls_of c.args.client c.args.calls.now) c.loop-inc.self) end inv.rest)

@@ -1,4 +1,4 @@
-use Rattle.std.proofs.Common.{◌≡◌, drop}
+use Rattle.std.proofs.Common.{◌≡◌, [], drop}
 use Rattle.std.specs.List.{AllByRecursion}
 use Rattle.homa_plain.specs.declared.id.CallId.{CallId}
 use Rattle.host_view.specs.Marks.{response_of}
@@ -11,8 +11,8 @@ use Rattle.homa_host.proofs.parts.HostParts.all_acked.Given as goal
 abbrev pub invariant-loop-inc : goal.invariant-loop-inc
 invariant-loop-inc l = record {
   kept : IsKept l.self;
-  steady : Steady l.inc-index 0 0 l.initial.self l.initial.out l.self l.out;
+  steady : Steady l.inc-index 0 0 l.initial.self [] l.self [];
   others : (q : CallId) → AllByRecursion (λ (id : CallId). q ≡ id → ⊥) (calls_of l.client l.calls)
       → response_of (host_of l.self) q ≡ response_of (host_of l.initial.self) q;
-  rest : IsAcking l.initial.self l.initial.out (calls_of l.client l.calls) l.self l.out (calls_of l.client (drop l.inc-index l.calls));
+  rest : IsAcking l.initial.self (calls_of l.client l.calls) l.self (calls_of l.client (drop l.inc-index l.calls));
 }

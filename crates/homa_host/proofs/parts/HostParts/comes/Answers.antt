@@ -84,7 +84,7 @@ record AtServer (g : given.Over) (c : After-acknowledged g) : Type 1 where
       let p = packet_between c.args.from o.control.id c.args.packet.now c.args.payload.now in
       let w = comes_to_row s p a Client (heard_work o c.args.from c.args.packet.now c.args.now) in
       Amid w c.server_gets.new.self c.server_gets.new.lent.out.now × AllByRecursion (IsWhole c.server_gets.new.lent.scratch.now) w.told
-      → Amid (acked s (acks p) w) c.acknowledged.new.self c.acknowledged.new.out × AllByRecursion (IsWhole c.server_gets.new.lent.scratch.now)
+      → Amid (acked s (acks p) w) c.acknowledged.new.self c.server_gets.new.lent.out.now × AllByRecursion (IsWhole c.server_gets.new.lent.scratch.now)
       (acked s (acks p) w).told
 
 at_server : (g : given.Over) (c : After-acknowledged g) → AtServer g c
@@ -97,17 +97,17 @@ at_server g c =
     let p = packet_between c.args.from o.control.id c.args.packet.now c.args.payload.now in
     let v = heard_work o c.args.from c.args.packet.now c.args.now in
     let quiet = came.heard_count s c.args.from c.args.packet.now.sender c.args.packet.now.body (host_of o) c.args.now in
-    let step : (w : Work) → Amid w mid c.server_gets.new.lent.out.now → Amid (acked s (acks p) w) q c.acknowledged.new.out = λ w amid.
+    let step : (w : Work) → Amid w mid c.server_gets.new.lent.out.now → Amid (acked s (acks p) w) q c.server_gets.new.lent.out.now = λ w amid.
     subst (λ (y : Settings × HostId). Amid (acked y.0 (acks (packet_between c.args.from y.1 c.args.packet.now c.args.payload.now)) w) q
-    c.acknowledged.new.out) (λ i. (e.steady.settings i, e.steady.id i)) (c.acknowledged.ensures.step c.args.payload.now w amid) in
+    c.server_gets.new.lent.out.now) (λ i. (e.steady.settings i, e.steady.id i)) (c.acknowledged.ensures.step c.args.payload.now w c.server_gets.new.lent.out.now amid) in
     let others : AllByRecursion (λ (id : CallId). p.id ≡ id → ⊥) (acks p) → response_of (host_of q) p.id ≡ response_of (host_of mid) p.id =
     λ apart. c.acknowledged.ensures.others c.args.payload.now p.id
     (subst (λ (me : HostId). AllByRecursion (λ (id : CallId). p.id ≡ id → ⊥)
     (acks (packet_between c.args.from me c.args.packet.now c.args.payload.now))) (sym e.steady.id) apart) in
     let amid = (e.step e.served.answered.0 e.served.answered.1).0 in
     record {
-      alike = came.client_alike s p v quiet mid q c.server_gets.new.lent.out.now c.acknowledged.new.out step others e.served.answered.0 amid;
-      step = came.client_done s p v quiet mid q c.server_gets.new.lent.out.now c.acknowledged.new.out step others e.served.answered.0 amid
+      alike = came.client_alike s p v quiet mid q c.server_gets.new.lent.out.now c.server_gets.new.lent.out.now step others e.served.answered.0 amid;
+      step = came.client_done s p v quiet mid q c.server_gets.new.lent.out.now c.server_gets.new.lent.out.now step others e.served.answered.0 amid
           c.server_gets.new.lent.scratch.now;
     }
 
@@ -228,7 +228,7 @@ acknowledged-requires-clause-order g c = let up = c.in-Ok.ensures.steady.order i
 pub acknowledged-requires-clause-room : goal.acknowledged-requires-clause-room
 acknowledged-requires-clause-room g c =
     let s = c.in-Ok.ensures.steady in
-    record { marks_left = omega (arith, s.marks_told); frames_left = omega (arith, s.frames_sent) }
+    omega (arith, s.marks_told)
 
 pub returns-in-Server-clause-step : goal.returns-in-Server-clause-step
 returns-in-Server-clause-step g c a replies =
@@ -262,7 +262,7 @@ returns-in-Ok-clause-step g c a replies =
     let x = at_server g at.After-acknowledged in
     let is = came.client_comes o.control.settings (host_of o) c.args.now c.args.from o.control.id c.args.packet.now c.args.payload.now a
     (age g at.After-is_stale ∙ c.if-is_stale.false) c.in-Client.is in
-    subst (λ (w : Work). Amid w c.acknowledged.new.self c.acknowledged.new.out × AllByRecursion (IsWhole c.server_gets.new.lent.scratch.now) w.told) (sym is)
+    subst (λ (w : Work). Amid w c.acknowledged.new.self c.server_gets.new.lent.out.now × AllByRecursion (IsWhole c.server_gets.new.lent.scratch.now) w.told) (sym is)
     (x.step a (c.in-Ok.ensures.step a (x.alike.back a replies)))
 
 pub returns-in-Ok-clause-steady : goal.returns-in-Ok-clause-steady
@@ -274,7 +274,7 @@ returns-in-Ok-clause-steady g c =
       id = t.id ∙ e.id;
       last = t.last ∙ e.last;
       marks_told = omega (arith, t.marks_told, e.marks_told);
-      frames_sent = omega (arith, t.frames_sent, e.frames_sent);
+      frames_sent = omega (arith, e.frames_sent);
       order = omega (arith, t.order, e.order);
     }
 

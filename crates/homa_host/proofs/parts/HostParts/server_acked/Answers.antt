@@ -1,15 +1,17 @@
 -- The client of a call has finished it.
-use Rattle.std.proofs.Common.{refl, sym, subst, ap, arith}
+use Rattle.std.proofs.Common.{refl, sym, subst, ap, ◌∙◌}
 use Rattle.homa_plain.specs.declared.settings.Settings.{Settings}
 use Rattle.homa_plain.specs.Rules.{Did}
 use Rattle.homa_plain.specs.Rows.{ServerRow}
 use Rattle.homa_plain.specs.Steps.{moment}
-use Rattle.host_state.specs.Saying.{one_of, IsOutcome}
+use Rattle.homa_plain.specs.Host.{Tuning}
+use Rattle.homa_plain.specs.Steps.{served}
+use Rattle.host_state.specs.Control.{Control, IsAt}
 use Rattle.homa_host.specs.Parts.{host_of}
 use Rattle.homa_host.specs.ServerFollow.{FollowedServer, acked_change}
 use Rattle.homa_host.proofs.Begun.{at-amid}
 use Rattle.homa_host.specs.ServerFollow.{CanFollowServer}
-use Rattle.homa_host.proofs.ServerAckLaws.{IsAck, row_now, did_at, acked_at, acked_others, acked_follows, acked_followed, acked_kept, acked_amid}
+use Rattle.homa_host.proofs.ServerAckLaws.{IsAck, row_now, acked_at, acked_others, acked_follows, acked_followed, acked_kept, acked_amid}
 use Rattle.homa_host.proofs.parts.HostParts.server_acked.Goals as goal
 use Rattle.homa_host.proofs.parts.HostParts.server_acked.Goals.{After-acked_change-change, After-follow_server}
 
@@ -47,26 +49,27 @@ pub returns-clause-kept : goal.returns-clause-kept
 returns-clause-kept c =
     let at = goal.at.returns-clause-kept c in
     let is = answered at.After-acked_change-change in
+    let tuning = ap (λ (x : Control). x.tuning) c.tell_buried.ensures.same in
     acked_kept c.args.self.now c.requires.kept c.args.id c.requires.client c.requires.call c.last-now.result c.last-now.ensures c.ack-acked.new.self
     c.ack-acked.result is
-    c.follow_server.new.books c.settle_server.new.self (followed at.After-follow_server is) c.settle_server.ensures.sound c.settle_server.ensures.same
-    (omega (arith, c.settle_server.ensures.opened, ap one_of c.acked_outcome-outcome.ensures.opened))
+    c.follow_server.new.books c.tell_buried.new.control (followed at.After-follow_server is) c.tell_buried.ensures.sound
+    (c.tell_buried.ensures.same ∙ ap (λ (t : Tuning). record c.args.self.now.control { tuning = t; marks = c.tell_buried.new.control.marks }) (sym tuning))
+    (ap (λ (t : Tuning). t.opened) tuning)
 
 pub returns-clause-step : goal.returns-clause-step
-returns-clause-step c = λ w amid.
+returns-clause-step c = λ w frames amid.
     let host = c.args.self.now in
     let kept = c.requires.kept in
     let at = goal.at.returns-clause-step c in
     let is = answered at.After-acked_change-change in
-    let did : Did ServerRow = did_at host kept c.args.id c.requires.client c.requires.call c.last-now.result c.last-now.ensures c.ack-acked.new.self w in
-    let outcome = subst (λ (d : Did ServerRow). IsOutcome d c.acked_outcome-outcome.result)
+    let told = subst (λ (d : Did ServerRow). IsAt (served host.control.settings c.args.id d w) c.tell_buried.new.control frames)
     (sym (acked_at host kept c.args.id c.requires.client c.requires.call c.last-now.result c.last-now.ensures c.ack-acked.new.self
     c.ack-acked.result is w amid.host))
-    (c.acked_outcome-outcome.ensures.outcome (moment host.control.settings c.args.id w)
-    (row_now host kept c.args.id c.requires.client c.requires.call c.last-now.result c.last-now.ensures c.ack-acked.new.self)) in
+    (c.tell_buried.ensures.step (moment host.control.settings c.args.id w)
+    (row_now host kept c.args.id c.requires.client c.requires.call c.last-now.result c.last-now.ensures c.ack-acked.new.self)
+    w frames (at-amid w host frames amid)) in
     acked_amid host kept c.args.id c.requires.client c.requires.call c.last-now.result c.last-now.ensures c.ack-acked.new.self c.ack-acked.result is
-    c.follow_server.new.books c.settle_server.new.self (followed at.After-follow_server is) w c.args.out.now c.settle_server.new.out amid
-    (c.settle_server.ensures.step did w outcome (at-amid w host c.args.out.now amid))
+    c.follow_server.new.books c.tell_buried.new.control (followed at.After-follow_server is) w frames frames amid told
 
 pub returns-clause-others : goal.returns-clause-others
 returns-clause-others c = λ q ne.
@@ -75,7 +78,7 @@ returns-clause-others c = λ q ne.
     acked_others host c.requires.kept c.args.id c.requires.client c.requires.call c.last-now.result c.last-now.ensures c.ack-acked.new.self
     c.ack-acked.result is
     (host_of (record {
-      control = c.settle_server.new.self;
+      control = c.tell_buried.new.control;
       clients = host.clients;
       servers = c.ack-acked.new.self;
       pool = host.pool;
