@@ -24,7 +24,8 @@ use Rattle.homa_pacer.specs.Pace as pace
 use Rattle.host_view.specs.Seen.{Seen, timer_of, waiting, AreArmed, AreReady}
 use Rattle.host_view.proofs.Pump.{none_ready, departures-before}
 use Rattle.host_books.proofs.PumpOnce.{pump_ends}
-use Rattle.driven_host.specs.Turns.{due_grants, in_time, IsIdleTurn, IsDeadline, MayAct}
+use Rattle.host_books.specs.Granted.{due_grants}
+use Rattle.driven_host.specs.Turns.{in_time, IsIdleTurn, IsDeadline, MayAct}
 
 -- a list that has nothing in it is empty
 pub nothing_in : {X : Type 0} (xs : List X) → ((x : X) → Contains xs x → ⊥) → xs ≡ []

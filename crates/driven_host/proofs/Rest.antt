@@ -20,8 +20,9 @@ use Rattle.host_view.specs.Seen.{Seen}
 use Rattle.host_view.specs.Marks.{IsAnswer}
 use Rattle.host_view.specs.Done.{IsDone}
 use Rattle.driven_host.specs.Asking.{opened}
-use Rattle.driven_host.specs.Turns.{due_grants, IsAtRest}
-use Rattle.driven_host.proofs.Granted.{ended_rests}
+use Rattle.host_books.specs.Granted.{due_grants}
+use Rattle.host_books.proofs.GrantsRest.{ended_rests}
+use Rattle.driven_host.specs.Turns.{IsAtRest}
 
 -- ---- no GRANT is due
 

@@ -1,14 +1,11 @@
 -- Turns that do nothing, and ticks at which a turn may do something.
-use Rattle.std.specs.Prelude.{◌≡◌, ◌≢◌, ◌⊎◌, ◌+◌, ◌≤◌, ℕ, nat_le, if◌then◌else◌, Option, Some, None, List, [], Contains}
-use Rattle.homa_plain.specs.declared.settings.Settings.{Settings}
-use Rattle.homa_plain.specs.Grants.{Granted, grants}
-use Rattle.homa_plain.specs.Host.{Host}
+use Rattle.std.specs.Prelude.{◌≡◌, ◌≢◌, ◌⊎◌, ◌+◌, ◌≤◌, ℕ, nat_le, if◌then◌else◌, Option, Some, None, [], Contains}
 use Rattle.homa_plain.specs.Limits.{last_host_tick}
 use Rattle.homa_plain.specs.Timers.{Timer, timers}
-use Rattle.homa_plain.specs.Sending.{Arriving, arrivals}
 use Rattle.homa_plain.specs.Credit.{refilled}
 use Rattle.homa_plain.specs.Steps.{turn_step}
 use Rattle.host_view.specs.Seen.{Seen, waiting}
+use Rattle.host_books.specs.Granted.{due_grants}
 
 -- a turn at this tick tells and sends nothing, and leaves the host as it is, but for its clock, and its credit where that is filled up
 abbrev pub IsIdleTurn : Seen → ℕ → Type 0
@@ -30,10 +27,6 @@ in_time (Some at) = if nat_le at last_host_tick then Some at else None
 -- why a turn at this tick may do something
 abbrev pub MayAct : Seen → ℕ → Type 0
 MayAct h at = IsNextWithBytes h at ⊎ IsDeadline h at
-
--- the GRANTs that the end of a step gives to the messages that arrive at this host
-abbrev pub due_grants : Settings → Host → List (Granted Arriving)
-due_grants s h = grants (λ (a : Arriving). a.message) s.overcommit s.window (arrivals h)
 
 -- no GRANT is due, and the host's own clock hasn't passed its last tick
 pub record IsAtRest (h : Seen) : Type 0 where

@@ -2,7 +2,7 @@
 // Rules: overcommitment (GRANTs to a few messages at a time, one of each sender), and SRPT (the fewest missing bytes
 // first). `homa_host/src/grants` says how far each is granted, and `grant_priorities` there at which
 // priority.
-ghost use Rattle.std.specs.Prelude.{◌≡◌, ℕ, ◌<◌, ◌≤◌, ◌+◌, [], map, length, IfOk, IsSome};
+ghost use Rattle.std.specs.Prelude.{◌≡◌, ℕ, ◌<◌, ◌≤◌, ◌+◌, [], map, length, is_some, IfOk, IsSome};
 ghost use Rattle.std.specs.Option.{option_map, ForSome};
 ghost use Rattle.place_heap.specs.Held.{list_of};
 ghost use Rattle.homa_plain.specs.Settings.{IsValid};
@@ -113,6 +113,14 @@ impl GrantBook {
         if let Some(peer) = self.peer_of[slot as usize] {
             self.put(slot, peer, None);
         }
+    }
+
+    /// Whether a message stands under a slot.
+    pub fn holds(&self, slot: u32) -> bool
+        requires { slot < self.now.slots }
+        ensures { result ≡ is_some (entry_of slot self.now.entries) }
+    {
+        self.peer_of[slot as usize].is_some()
     }
 
     /// Makes `out` the slots of the messages that are granted to: of all in order the first few, at most 7, with

@@ -78,7 +78,7 @@ kept-control p c on sound kept = record {
   later : AreBooked (with_settings p.control.settings) p.books
   later =
       let ready = later_ready (seen_of p) p.books.pacer.ready c.last on.last kept.booked.ready in
-      record { armed = kept.booked.armed; entered = kept.booked.entered; ready = record { all = ready.all; only = ready.only } }
+      record { armed = kept.booked.armed; entered = kept.booked.entered; ready = record { all = ready.all; only = ready.only }; granted = kept.booked.granted }
 
 -- a step begins
 pub amid-begun : (p : HostParts) (c : Control) (now : ℕ) → c ≡ record p.control { last = now; marks = [] }

@@ -148,6 +148,7 @@ module _ (c : HostParts) (kept : IsKept c) (slot : ℕ) (n : IsNext c slot) wher
         (record {
           armed = kept.booked.armed;
           entered = kept.booked.entered;
+          granted = kept.booked.granted;
           ready = idle_ready (seen_of c) (kept_slots c kept) (OfClient n.id) slot at.0 at.1 c.books.pacer.ready kept.booked.ready
               (client_rests (seen_of c) n.id row is_row may_not);
         }))

@@ -33,11 +33,12 @@ use Rattle.homa_grants.specs.Entries.{Entry}
 use Rattle.host_view.specs.Follow.{ChangesAt, has_row, client_arrival}
 use Rattle.host_books.specs.declared.books.Arrival.{Arrival}
 use Rattle.host_books.specs.declared.books.Books.{Books}
-use Rattle.host_books.specs.Duties.{AreOwn, AreBooked, HaveRoom}
+use Rattle.host_books.specs.Duties.{noted, AreOwn, AreBooked, HaveRoom}
 use Rattle.host_books.proofs.Changing.{books_stay}
 use Rattle.host_books.specs.Duty.{client_duty, client_duty_in, arrival_duty, followed}
 use Rattle.host_books.specs.SameRows.{SameRows}
 use Rattle.host_books.proofs.Splits.{is_set}
+use Rattle.host_books.proofs.Noted.{noted_same}
 use Rattle.host_books.proofs.Rebooked.{rebooked}
 use Rattle.host_books.proofs.Tables.{made_of}
 use Rattle.host_books.proofs.Things.{thing_at}
@@ -177,7 +178,7 @@ kept_spent c n kept =
     let booked = kept.booked in
     kept_books c (spends n c.books) kept
     (record { timers = room.timers; grants = room.grants; hosts = room.hosts; most = room.most; pacer = room.pacer; rate = room.rate })
-    (record { armed = booked.armed; entered = booked.entered; ready = booked.ready })
+    (record { armed = booked.armed; entered = booked.entered; ready = booked.ready; granted = booked.granted })
 
 -- ---- the rows
 
@@ -340,9 +341,11 @@ module _ (c : HostParts) (kept : IsKept c) (id : CallId) (slot : ℕ) (r : HeldR
     went_on books after e same went =
         let duty = client_duty c.control.settings row in
         let is = subst (λ (b : Books). WentOnClient clients slot b after) e went in
-        is id stands_after.0 c.pool stands_after.1 inside_after ∙ ap (λ d. record (followed slot d c.books) { grants = c.books.grants }) duty_after
-        ∙ ap (λ (g : Book). record (followed slot duty c.books) { grants = g })
-        (sym (ap (λ (a : Option Arrival). (followed slot (record duty { arrival = a }) c.books).grants) same ∙ arrival_booked))
+        let there = ap (λ (a : Option Arrival). (followed slot (record duty { arrival = a }) c.books).grants) same ∙ arrival_booked in
+        let note = noted_same slot duty.arrival c.books (ap (λ (g : Book). g.entries) there) in
+        is id stands_after.0 c.pool stands_after.1 inside_after
+        ∙ ap (λ d. record (followed slot d c.books) { grants = c.books.grants; changed = noted slot c.books }) duty_after
+        ∙ (λ i. record (followed slot duty c.books) { grants = sym there i; changed = sym note i })
 
     -- the books followed
     pub followed_by : (books after : Books) → books ≡ c.books → FollowedClient clients (Stays slot) books after

@@ -70,6 +70,7 @@ kept-pacer p pace ready slots rate kept = record {
   booked = record {
     armed = kept.booked.armed;
     entered = kept.booked.entered;
+    granted = kept.booked.granted;
     ready = subst (λ book. AreReady (seen_of after) book) (sym ready) (record { all = kept.booked.ready.all; only = kept.booked.ready.only });
   };
 } where
@@ -213,6 +214,19 @@ pub ended_through : (s : Settings) (w : Work) (mid q : HostParts) (before after 
     → ((v : Work) → Amid v mid before → Amid (ended mid.control.settings v) q after) → Amid (ended s w) q after
 ended_through s w mid q before after settings amid ends = subst (λ (t : Settings). Amid (ended t w) q after) settings (ends w amid)
 
+-- the rows that were due in a turn acted
+pub turn_acted : (o : HostParts) (kept : IsKept o) (now : ℕ) (clock : now ≤ 1000000002000) (later : o.control.last ≤ now) (control : Control)
+    (is : control ≡ record o.control { last = now; marks = [] }) (pace : Pace) → pace ≡ refill now o.books.pacer
+    → (mid : HostParts) (before between : List SentFrame) → before ≡ []
+    → ((w : Work) → Amid w (record o { control = control; books = record o.books { pacer = pace } }) before → Amid (acts control.settings w) mid between)
+    → Amid (acts o.control.settings (begun (refilled o.control.settings (record (host_of o) { last = now })) now)) mid between
+turn_acted o kept now clock later control is pace e mid before between none acting =
+    let w : Work = begun (refilled o.control.settings (record (host_of o) { last = now })) now in
+    let base : HostParts = record o { control = control; books = record o.books { pacer = pace } } in
+    let same : control.settings ≡ o.control.settings = ap (λ (c : Control). c.settings) is in
+    let begins : Amid w base before = subst (Amid w base) (sym none) (filled_amid o kept now clock later control is pace e) in
+    subst (λ (s : Settings). Amid (acts s w) mid between) same (acting w begins)
+
 -- a turn
 pub turn_through : (o : HostParts) (kept : IsKept o) (now : ℕ) (clock : now ≤ 1000000002000) (later : o.control.last ≤ now) (control : Control)
     (is : control ≡ record o.control { last = now; marks = [] }) (pace : Pace) → pace ≡ refill now o.books.pacer
@@ -223,10 +237,8 @@ pub turn_through : (o : HostParts) (kept : IsKept o) (now : ℕ) (clock : now �
     → Amid (ended o.control.settings (acts o.control.settings (begun (refilled o.control.settings (record (host_of o) { last = now })) now))) q after
 turn_through o kept now clock later control is pace e mid q before between after none acting settings ends =
     let w : Work = begun (refilled o.control.settings (record (host_of o) { last = now })) now in
-    let base : HostParts = record o { control = control; books = record o.books { pacer = pace } } in
     let same : control.settings ≡ o.control.settings = ap (λ (c : Control). c.settings) is in
-    let begins : Amid w base before = subst (Amid w base) (sym none) (filled_amid o kept now clock later control is pace e) in
-    let acted : Amid (acts o.control.settings w) mid between = subst (λ (s : Settings). Amid (acts s w) mid between) same (acting w begins) in
+    let acted = turn_acted o kept now clock later control is pace e mid before between none acting in
     ended_through o.control.settings (acts o.control.settings w) mid q between after (settings ∙ same) acted ends
 
 -- ---- nothing happens

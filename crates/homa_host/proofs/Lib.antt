@@ -33,6 +33,7 @@ pub mod Turning
 pub mod Acking
 pub mod SameLife
 pub mod Ending
+pub mod NoneDue
 pub mod Delivered
 pub mod ServerGets
 pub mod ServerHeard

@@ -1,5 +1,6 @@
 -- A host that has done nothing.
-use Rattle.std.proofs.Common.{◌≡◌, ◌≤◌, ◌<◌, ℕ, ◌+◌, Some, None, [], refl, sym, ap, subst, ◌∙◌, arith}
+use Rattle.std.proofs.lemmas.Bool.{true≢false}
+use Rattle.std.proofs.Common.{◌≡◌, ◌≤◌, ◌<◌, ℕ, ◌+◌, true, Some, None, [], refl, sym, ap, subst, ◌∙◌, arith}
 use Rattle.std.specs.List.{Contains, sum_by}
 use Rattle.std.specs.Option.{option_and_then}
 use Rattle.plain_sets.proofs.OrderSame.{none_in}
@@ -100,13 +101,14 @@ module _ (s : Settings) (id : HostId) (inc last : ℕ) (b : Books) (credit : b.p
     marks = [];
   }
 
-  new-booked : b.timers.timers ≡ [] → b.grants.entries ≡ [] → b.pacer.ready ≡ []
+  new-booked : b.timers.timers ≡ [] → b.grants.entries ≡ [] → b.pacer.ready ≡ [] → b.changed ≡ true
       → AreBooked (record { settings = s; host = new_host s id inc last; client_places = empty; server_places = empty; marks = [] }) b
   unfolding empty
-  new-booked timers grants ready = record {
+  new-booked timers grants ready changed = record {
     armed = timers ∙ sym (no_things timer_key);
     entered = grants ∙ sym (no_things entry_key);
     ready = record { all = λ l c. absurd (none_in l c); only = λ r c. absurd (none_in r (subst (λ book. Contains book r) ready c)) };
+    granted = λ same. absurd (true≢false (sym changed ∙ same));
   }
 
   new-known : KnowsPeers s (new_host s id inc last)
@@ -121,8 +123,8 @@ module _ (s : Settings) (id : HostId) (inc last : ℕ) (b : Books) (credit : b.p
   no_part (OfServer q) = ap (option_and_then (λ (x : Placed HeldServer). state_part x.row.state)) (get-empty call_cmp q)
 
   pub new-kept : IsValid s → id.0 < s.hosts → 1 ≤ inc → last ≤ 1000000002000 → HaveRoom s b → b.timers.timers ≡ [] → b.grants.entries ≡ []
-      → b.pacer.ready ≡ [] → IsKept (new_parts s id inc last b)
-  new-kept valid named life clock room timers grants ready = record {
+      → b.pacer.ready ≡ [] → b.changed ≡ true → IsKept (new_parts s id inc last b)
+  new-kept valid named life clock room timers grants ready changed = record {
     control = new-sound s id inc last valid named life clock;
     one = record { client = refl; life = refl; client_settings = refl; server = refl; server_settings = refl };
     own = subst HasOwnOrders (sym new-is) (new-own s id inc last);
@@ -141,7 +143,7 @@ module _ (s : Settings) (id : HostId) (inc last : ℕ) (b : Books) (credit : b.p
     server_places =
         record { within = λ q x is. none_some x (sym (get-empty call_cmp q) ∙ is); apart = λ p q x y a c e. none_some x (sym (get-empty call_cmp p) ∙ a) };
     room = room;
-    booked = subst (λ (h : Seen). AreBooked h b) (sym new-seen) (new-booked timers grants ready);
+    booked = subst (λ (h : Seen). AreBooked h b) (sym new-seen) (new-booked timers grants ready changed);
   }
 
   -- parts that are these

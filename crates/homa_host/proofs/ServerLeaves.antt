@@ -216,6 +216,7 @@ module _ (c : HostParts) (kept : IsKept c) (place : ℕ) (n : IsNext c place) wh
         (record {
           armed = kept.booked.armed;
           entered = kept.booked.entered;
+          granted = kept.booked.granted;
           ready = idle_ready (seen_of c) (kept_slots c kept) (OfServer n.id) slot at.0 at.1 c.books.pacer.ready kept.booked.ready
               (server_rests (seen_of c) n.id row is_row x.view);
         }))

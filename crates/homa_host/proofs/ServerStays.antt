@@ -32,9 +32,10 @@ use Rattle.host_view.specs.declared.outbox.SentFrame.{SentFrame}
 use Rattle.host_view.specs.Follow.{ChangesAt, has_row, server_arrival}
 use Rattle.host_books.specs.declared.books.Arrival.{Arrival}
 use Rattle.host_books.specs.declared.books.Books.{Books}
-use Rattle.host_books.specs.Duties.{AreOwn, AreBooked, HaveRoom}
+use Rattle.host_books.specs.Duties.{noted, AreOwn, AreBooked, HaveRoom}
 use Rattle.host_books.specs.Duty.{server_duty, server_duty_in, arrival_duty, arriving, followed}
 use Rattle.host_books.proofs.Changing.{books_stay}
+use Rattle.host_books.proofs.Noted.{noted_same}
 use Rattle.host_books.proofs.Rebooked.{rebooked}
 use Rattle.host_books.proofs.Tables.{made_of}
 use Rattle.host_books.proofs.Things.{thing_at}
@@ -253,9 +254,11 @@ module _ (c : HostParts) (kept : IsKept c) (id : CallId) (place : ℕ) (r : Held
         let slot = c.control.settings.calls + place in
         let duty = server_duty c.control.settings row in
         let is = subst (λ (x : ℕ × Books). WentOnServer servers x.0 place x.1 after) (λ i. (n i, e i)) went in
-        is id stands_after.0 c.pool stands_after.1 inside_after ∙ ap (λ d. record (followed slot d c.books) { grants = c.books.grants }) duty_after
-        ∙ ap (λ (g : Book). record (followed slot duty c.books) { grants = g })
-        (sym (ap (λ (a : Option Arrival). (followed slot (record duty { arrival = a }) c.books).grants) same ∙ arrival_booked))
+        let there = ap (λ (a : Option Arrival). (followed slot (record duty { arrival = a }) c.books).grants) same ∙ arrival_booked in
+        let note = noted_same slot duty.arrival c.books (ap (λ (g : Book). g.entries) there) in
+        is id stands_after.0 c.pool stands_after.1 inside_after
+        ∙ ap (λ d. record (followed slot d c.books) { grants = c.books.grants; changed = noted slot c.books }) duty_after
+        ∙ (λ i. record (followed slot duty c.books) { grants = sym there i; changed = sym note i })
 
     -- the books followed
     pub followed_by : (calls : ℕ) (books after : Books) → calls ≡ c.control.settings.calls → books ≡ c.books

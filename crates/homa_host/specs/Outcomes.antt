@@ -4,7 +4,7 @@ use Rattle.homa_plain.specs.declared.packet.Body.{Body}
 use Rattle.homa_plain.specs.declared.packet.Body.TheVariants as body
 use Rattle.host_books.specs.declared.books.Books.{Books}
 use Rattle.host_books.specs.declared.books.Arrival.{Arrival}
-use Rattle.host_books.specs.Duties.{AreOwn, HaveRoom}
+use Rattle.host_books.specs.Duties.{noted, AreOwn, HaveRoom}
 use Rattle.host_books.specs.Duty.{no_duties, client_duty, followed}
 use Rattle.homa_plain.specs.declared.id.CallId.{CallId}
 use Rattle.msg_pool.specs.Pool.{Pool}
@@ -173,4 +173,4 @@ FollowedClient t (Goes slot) old new = new ≡ followed slot no_duties old
 -- the books when they followed a client's row in which nothing new arrives: what arrives stays as it is booked
 abbrev pub WentOnClient : Clients → ℕ → Books → Books → Type 0
 WentOnClient t slot old new = (id : CallId) (r : HeldRow) (pool : Pool) → StandsAt t.rows id slot r → IsInPool pool r.part
-    → new ≡ record (followed slot (client_duty t.settings (seen_row pool r)) old) { grants = old.grants }
+    → new ≡ record (followed slot (client_duty t.settings (seen_row pool r)) old) { grants = old.grants; changed = noted slot old }

@@ -8,7 +8,7 @@ use Rattle.homa_server.specs.Held.{HeldServer, seen_server}
 use Rattle.homa_server.specs.Table.{Servers, request_at}
 use Rattle.host_books.specs.declared.books.Books.{Books}
 use Rattle.host_books.specs.declared.books.Arrival.{Arrival}
-use Rattle.host_books.specs.Duties.{AreOwn, HaveRoom}
+use Rattle.host_books.specs.Duties.{noted, AreOwn, HaveRoom}
 use Rattle.host_books.specs.Duty.{no_duties, server_duty, followed}
 use Rattle.homa_server.specs.declared.answers.ServerAct.{ServerAct}
 use Rattle.homa_server.specs.declared.answers.ServerAct.TheVariants as act
@@ -45,7 +45,7 @@ FollowedServer t calls (Goes place) old new = new ≡ followed (calls + place) n
 -- the books that followed a row in which nothing new arrives: what arrives stays as it is booked
 abbrev pub WentOnServer : Servers → ℕ → ℕ → Books → Books → Type 0
 WentOnServer t calls place old new = (id : CallId) (r : HeldServer) (pool : Pool) → StandsAt t.rows id place r → AreIn pool (request_at t.rows)
-    → new ≡ record (followed (calls + place) (server_duty t.settings (seen_server pool r)) old) { grants = old.grants }
+    → new ≡ record (followed (calls + place) (server_duty t.settings (seen_server pool r)) old) { grants = old.grants; changed = noted (calls + place) old }
 
 -- what became of the row at a place that acted, and how many order numbers it took
 abbrev pub server_act_change : ServerAct → ℕ → Change

@@ -128,12 +128,13 @@ impl HostParts {
     // A step ends.
     pub(crate) fn end_step(&mut self, out: &mut Outbox)
         requires kept { IsKept self.old }
+        requires amid { (w : Work) × Amid w self.old out.old }
         requires room { HasRoom 71 7 self.old out.old }
         ensures kept { IsKept self.new }
         ensures step { (w : Work) → Amid w self.old out.old → Amid (ended self.old.control.settings w) self.new out.new }
         ensures settings { self.new.control.settings ≡ self.old.control.settings }
     {
-        self.give_grants(out);
+        self.give_due_grants(out);
         self.pump(out);
     }
 
@@ -166,12 +167,14 @@ pub(crate) fn follow_client(books: &mut Books, clients: &ClientTable, change: Ch
     }
 }
 
-// The books follow a client's row in which nothing new arrives: what arrives stays as it is booked.
+// The books follow a client's row in which nothing new arrives: what arrives stays as it is booked, and its granted end
+// may have changed.
 pub(crate) fn client_goes_on(books: &mut Books, clients: &ClientTable, place: u32)
     requires { CanFollowClient clients.now books.old (Stays place) }
     ensures { WentOnClient clients.now place books.old books.new }
 {
     books.follow_timer(place, client_timer(clients, place));
+    books.note_arrival(place);
     books.follow_waiting(place, client_waiting(clients, place));
 }
 
@@ -193,12 +196,14 @@ pub(crate) fn follow_server(books: &mut Books, servers: &ServerTable, calls: u32
     }
 }
 
-// The books follow a server's row in which nothing new arrives: what arrives stays as it is booked.
+// The books follow a server's row in which nothing new arrives: what arrives stays as it is booked, and its granted end
+// may have changed.
 pub(crate) fn server_goes_on(books: &mut Books, servers: &ServerTable, calls: u32, place: u32)
     requires { CanFollowServer servers.now calls books.old (Stays place) }
     ensures { WentOnServer servers.now calls place books.old books.new }
 {
     let slot = calls + place;
     books.follow_timer(slot, server_timer(servers, place));
+    books.note_arrival(slot);
     books.follow_waiting(slot, server_waiting(servers, place));
 }

@@ -149,7 +149,7 @@ leaving_waits s now h (OfServer id) z = by_row (get h.servers id) where
   by_row (Some row) c = left_waits id row.state z c
 
 -- an entry depends on the slot alone
-same_entry : (g h : Seen) (x : Arriving) → slot_of g x.place ≡ slot_of h x.place → entry_of g x ≡ entry_of h x
+pub same_entry : (g h : Seen) (x : Arriving) → slot_of g x.place ≡ slot_of h x.place → entry_of g x ≡ entry_of h x
 same_entry g h x e = λ i. record { slot = e i; peer = x.message.peer.0; remaining = x.message.length - x.message.arrived; order = x.message.order }
 
 same_ready : (g h : Seen) (x : Leaving) → slot_of g x.place ≡ slot_of h x.place → ready_of g x ≡ ready_of h x

@@ -29,7 +29,7 @@ books_stay g h b same are =
       server_places = same.server_places i;
       marks = g.marks;
     }) are in
-    record { armed = middle.armed; entered = middle.entered; ready = record { all = middle.ready.all; only = middle.ready.only } }
+    record { armed = middle.armed; entered = middle.entered; ready = record { all = middle.ready.all; only = middle.ready.only }; granted = middle.granted }
 
 -- ---- a row of a table
 

@@ -4,8 +4,10 @@ pub mod Follows
 pub mod BookThings
 pub mod PageSums
 pub mod Tables
+pub mod Noted
 pub mod Rebooked
 pub mod Things
 pub mod GrantsEach
+pub mod GrantsRest
 pub mod PumpOnce
 pub mod Changing

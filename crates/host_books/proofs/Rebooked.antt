@@ -21,6 +21,7 @@ use Rattle.host_books.specs.declared.books.Waiting.{Waiting}
 use Rattle.host_books.specs.Duties.{timers_in, entries_in, ready_in, AreOwn, AreBooked}
 use Rattle.host_books.specs.Stood.{Stood}
 use Rattle.host_books.specs.Duty.{timer_duty, arrival_duty, waiting_duty, client_duty_in, server_duty_in, arriving, reply_duty, duty_at, followed}
+use Rattle.host_books.proofs.Noted.{still_granted}
 use Rattle.host_books.proofs.BookThings.{armed_book, armed_order, entered_book, entered_order, ready_book, ready_order}
 
 -- ---- a row's duties are its things
@@ -208,4 +209,5 @@ module _ (place : Place) (n : ℕ) (old new : Seen) (change : ChangesAt place n 
           ∙ entered_book place n old new change stood b.grants.entries own are.entered;
       ready = subst (λ rs. AreReady new (booked pace.ready_key (λ (r : pace.Ready). r.slot) n rs b.pacer.ready)) (sym ready_here)
           (ready_book place n old new change stood b.pacer.ready are.ready);
+      granted = still_granted place n old new change stood b are.entered are.granted (duty_at new place).arrival entries_here;
     }

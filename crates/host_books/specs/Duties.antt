@@ -1,5 +1,5 @@
 -- What a row has in the books of its host.
-use Rattle.std.specs.Prelude.{◌≡◌, ◌+◌, ℕ, Option, None, Some, IfSome, List, [], ◌∷◌}
+use Rattle.std.specs.Prelude.{◌≡◌, ◌+◌, ℕ, Bool, true, false, is_some, if◌then◌else◌, Option, None, Some, IfSome, List, [], ◌∷◌}
 use Rattle.homa_plain.specs.declared.settings.Settings.{Settings}
 use Rattle.homa_timers.specs.Armed as armed
 use Rattle.homa_grants.specs.Entries as entry
@@ -10,6 +10,7 @@ use Rattle.host_books.specs.declared.books.Deadline.{Deadline}
 use Rattle.host_books.specs.declared.books.Arrival.{Arrival}
 use Rattle.host_books.specs.declared.books.Waiting.{Waiting}
 use Rattle.host_books.specs.declared.books.Duties.{Duties}
+use Rattle.host_books.specs.Granted.{due_grants}
 
 -- a slot's timer, in the book of timers: none or one
 abbrev pub timers_in : ℕ → Option Deadline → List armed.Timer
@@ -26,6 +27,15 @@ abbrev pub ready_in : ℕ → Option Waiting → List pace.Ready
 ready_in slot None = []
 ready_in slot (Some w) = record { slot = slot; left = w.left; order = w.order } ∷ []
 
+-- whether what arrives may have changed, where it was noted that a slot's message did, if it has one
+abbrev pub noted : ℕ → Books → Bool
+noted slot b = if b.changed then true else is_some (entry.entry_of slot b.grants.entries)
+
+-- whether what arrives may have changed, once a slot has this message that arrives, or none
+abbrev pub changed_by : ℕ → Option Arrival → Books → Bool
+changed_by slot None b = noted slot b
+changed_by slot (Some a) b = true
+
 -- the order numbers of a slot's things are none of other slots' things
 pub record AreOwn (b : Books) (slot : ℕ) (d : Duties) : Type 0 where
   pub timer : IfSome d.timer (λ t. armed.IsOwnOrder slot t.order b.timers.timers)
@@ -41,8 +51,9 @@ pub record HaveRoom (s : Settings) (b : Books) : Type 0 where
   pub pacer : b.pacer.slots ≡ s.calls + s.served
   pub rate : b.pacer.rate ≡ s.rate
 
--- each book holds exactly what the host's rows need
+-- each book holds exactly what the host's rows need; no GRANT is due where what arrives didn't change since messages were last granted to
 pub record AreBooked (h : Seen) (b : Books) : Type 0 where
   pub armed : AreArmed h b.timers.timers
   pub entered : AreEntered h b.grants.entries
   pub ready : AreReady h b.pacer.ready
+  pub granted : b.changed ≡ false → due_grants h.settings h.host ≡ []

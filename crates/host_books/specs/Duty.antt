@@ -17,7 +17,7 @@ use Rattle.host_books.specs.declared.books.Deadline.{Deadline}
 use Rattle.host_books.specs.declared.books.Arrival.{Arrival}
 use Rattle.host_books.specs.declared.books.Waiting.{Waiting}
 use Rattle.host_books.specs.declared.books.Duties.{Duties}
-use Rattle.host_books.specs.Duties.{timers_in, entries_in, ready_in}
+use Rattle.host_books.specs.Duties.{timers_in, entries_in, ready_in, changed_by}
 
 -- no timer, no message that arrives, and none that waits to be sent
 abbrev pub no_duties : Duties
@@ -78,4 +78,5 @@ followed slot d b = record {
   timers = record b.timers { timers = booked armed.timer_key (λ t. t.slot) slot (timers_in slot d.timer) b.timers.timers };
   grants = record b.grants { entries = booked entry.entry_key (λ e. e.slot) slot (entries_in slot d.arrival) b.grants.entries };
   pacer = record b.pacer { ready = booked pace.ready_key (λ r. r.slot) slot (ready_in slot d.waiting) b.pacer.ready };
+  changed = changed_by slot d.arrival b;
 }

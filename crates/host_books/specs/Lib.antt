@@ -3,4 +3,5 @@ pub mod Pages
 pub mod Duty
 pub mod Ends
 pub mod SameRows
+pub mod Granted
 pub mod Duties

@@ -1,11 +1,11 @@
 // The books of a host's rows: when each is to act, which messages are granted to, which are sent.
-ghost use Rattle.std.specs.Prelude.{◌≡◌, ◌<◌, [], IfOk, IfSome, None};
+ghost use Rattle.std.specs.Prelude.{◌≡◌, ◌<◌, true, [], IfOk, IfSome, None};
 ghost use Rattle.homa_plain.specs.Settings.{IsValid};
 ghost use Rattle.homa_timers.specs.Armed as armed;
 ghost use Rattle.homa_grants.specs.Entries as entry;
 ghost use Rattle.homa_pacer.specs.Pace as pace;
 ghost use Rattle.host_view.specs.Follow.{booked};
-ghost use Rattle.host_books.specs.Duties.{timers_in, entries_in, ready_in, AreOwn, HaveRoom};
+ghost use Rattle.host_books.specs.Duties.{timers_in, entries_in, ready_in, changed_by, noted, AreOwn, HaveRoom};
 
 use homa_grants::GrantBook;
 use homa_pacer::Pacer;
@@ -19,6 +19,8 @@ pub struct Books {
     pub timers: Timers,
     pub grants: GrantBook,
     pub pacer: Pacer,
+    /// Whether what arrives may have changed since messages were last granted to.
+    pub changed: bool,
 }
 
 /// When a row is to act, and the row's order, which decides between rows with one deadline.
@@ -75,11 +77,13 @@ impl Books {
         ensures pacer { IfOk result (λ b. b.pacer.ready ≡ []) }
         ensures credit { IfOk result (λ b. b.pacer.credit ≡ settings.now.rate) }
         ensures refilled { IfOk result (λ b. b.pacer.refilled ≡ 0) }
+        ensures changed { IfOk result (λ b. b.changed ≡ true) }
     {
         Ok(Books {
             timers: Timers::open(alloc, settings)?,
             grants: GrantBook::open(alloc, settings)?,
             pacer: Pacer::open(alloc, settings)?,
+            changed: true,
         })
     }
 
@@ -99,7 +103,7 @@ impl Books {
         }
     }
 
-    /// Gives a slot this message that arrives, or none. The other books stay.
+    /// Gives a slot this message that arrives, or none, and notes that what arrives may have changed. The other books stay.
     pub fn follow_arrival(&mut self, slot: u32, arrival: Option<Arrival>)
         requires slot { slot < self.old.grants.slots }
         requires peer { IfSome arrival (λ a. a.peer.0 < self.old.grants.hosts) }
@@ -108,15 +112,28 @@ impl Books {
           grants = record self.old.grants {
             entries = booked entry.entry_key (λ e. e.slot) slot (entries_in slot arrival) self.old.grants.entries;
           };
+          changed = changed_by slot arrival self.old;
         } }
     {
         match arrival {
             Some(arrival) => {
                 self.grants
                     .enter(slot, arrival.peer, arrival.remaining, arrival.order);
+                self.changed = true;
             }
-            None => self.grants.leave(slot),
+            None => {
+                self.note_arrival(slot);
+                self.grants.leave(slot);
+            }
         }
+    }
+
+    /// Notes that the message that arrives under a slot may have changed, if there is one. The books stay.
+    pub fn note_arrival(&mut self, slot: u32)
+        requires { slot < self.old.grants.slots }
+        ensures { self.new ≡ record self.old { changed = noted slot self.old } }
+    {
+        self.changed = self.changed || self.grants.holds(slot);
     }
 
     /// Gives a slot this message that waits to be sent, or none. The other books stay.
@@ -151,6 +168,7 @@ impl Books {
         ensures pacer { self.new.pacer ≡ record self.old.pacer {
           ready = booked pace.ready_key (λ r. r.slot) slot (ready_in slot duties.waiting) self.old.pacer.ready;
         } }
+        ensures changed { self.new.changed ≡ changed_by slot duties.arrival self.old }
     {
         self.follow_timer(slot, duties.timer);
         self.follow_arrival(slot, duties.arrival);

@@ -28,6 +28,12 @@ start-requires-clause-order c = subst (λ (h : Seen). h.host.order < 92233720368
 pub end_step-requires-clause-kept : goal.end_step-requires-clause-kept
 end_step-requires-clause-kept c = c.start.ensures.kept
 
+pub end_step-requires-clause-amid : goal.end_step-requires-clause-amid
+end_step-requires-clause-amid c =
+    let o = c.self.inside.parts in
+    let w = starts o.control.settings c.args.server c.args.number c.args.request.items (begun (host_of o) c.args.now) in
+    (w, subst (λ (f : List SentFrame). Amid w c.start.new.self f) (sym c.clear.ensures) c.in-Ok.ensures.step)
+
 pub end_step-requires-clause-room : goal.end_step-requires-clause-room
 end_step-requires-clause-room c =
     let marks = c.in-Ok.ensures.steady.marks_told in

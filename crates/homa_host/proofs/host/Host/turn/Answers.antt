@@ -1,11 +1,13 @@
 use Rattle.std.proofs.Common.{◌<◌, ◌≤◌, length, ap, sym, subst, ◌∙◌, arith}
-use Rattle.homa_plain.specs.Steps.{turn_step}
+use Rattle.homa_plain.specs.Work.{begun}
+use Rattle.homa_plain.specs.Credit.{refilled}
+use Rattle.homa_plain.specs.Steps.{acts, turn_step}
 use Rattle.host_state.specs.Control.{Control}
 use Rattle.host_view.specs.Seen.{Seen}
 use Rattle.host_view.specs.Done.{IsDone}
-use Rattle.homa_host.specs.Parts.{seen_of}
+use Rattle.homa_host.specs.Parts.{host_of, seen_of}
 use Rattle.homa_host.specs.Public.{IsSameHost}
-use Rattle.homa_host.proofs.Ending.{filled_kept, turn_through, turn_done, turn_same, turn_last}
+use Rattle.homa_host.proofs.Ending.{filled_kept, turn_acted, turn_through, turn_done, turn_same, turn_last}
 use Rattle.homa_host.proofs.host.Host.turn.Goals as goal
 
 pub begin-requires : goal.begin-requires
@@ -28,6 +30,16 @@ act_all-requires-clause-out c = c.clear.ensures
 
 pub end_step-requires-clause-kept : goal.end_step-requires-clause-kept
 end_step-requires-clause-kept c = c.act_all.ensures.kept
+
+pub end_step-requires-clause-amid : goal.end_step-requires-clause-amid
+end_step-requires-clause-amid c =
+    let o = c.self.inside.parts in
+    let later = subst (λ (h : Seen). h.host.last ≤ c.args.now) (sym c.self.view_is) c.requires.later in
+    (
+      acts o.control.settings (begun (refilled o.control.settings (record (host_of o) { last = c.args.now })) c.args.now),
+      turn_acted o c.self.invariant c.args.now c.requires.now later c.begin.new.self c.begin.ensures c.refill.new.self c.refill.ensures.refilled
+          c.act_all.new.self c.clear.new.self c.act_all.new.out c.clear.ensures c.act_all.ensures.step,
+    )
 
 pub end_step-requires-clause-room : goal.end_step-requires-clause-room
 end_step-requires-clause-room c =

@@ -11,7 +11,7 @@ returns-in-Ok-Ok-Ok-Ok-Ok-clause-kept c =
     x.ensures' x.ensures'' x.ensures'''.pages x.ensures'''.no_lease in
     subst IsKept is
     (new-kept c.args.settings.now c.args.id c.args.inc c.args.last x.books b.credit b.refilled c.requires.valid c.requires.id c.requires.inc
-    c.requires.last b.room b.timers b.grants b.pacer)
+    c.requires.last b.room b.timers b.grants b.pacer b.changed)
 
 pub returns-in-Ok-Ok-Ok-Ok-Ok-clause-seen : goal.returns-in-Ok-Ok-Ok-Ok-Ok-clause-seen
 returns-in-Ok-Ok-Ok-Ok-Ok-clause-seen c =

@@ -33,12 +33,12 @@ use Rattle.step_laws.proofs.Others.{get-set_row, leaves_from-others}
 use Rattle.step_laws.proofs.StepEnd.{left}
 use Rattle.host_view.specs.Follow.{client_arrival, server_arrival}
 use Rattle.host_books.specs.Ends.{grant_to, granted_each}
+use Rattle.host_books.specs.Granted.{due_grants}
 use Rattle.host_books.proofs.Splits.{at, split}
 use Rattle.host_books.proofs.Slots.{at_one}
 use Rattle.host_books.proofs.BookThings.{arrival_things}
 use Rattle.host_books.proofs.Things.{thing_at, at_thing, one_thing}
 use Rattle.host_books.proofs.GrantsEach.{grants_each, grant_leaves, arrival_stays, rest_arrives, chosen_arrive, chosen_differ}
-use Rattle.driven_host.specs.Turns.{due_grants}
 
 abbrev message_of : Arriving → Message
 message_of a = a.message
@@ -280,7 +280,7 @@ module _ (s : Settings) where
       let no : nat_lt d.message.granted (new_end s.window d.message) ≡ false = grind (arith, nat_tests, all.0) in
       rw no (none_from n (suc r) ds all.1)
 
-  grants_rest : (w : Work) → due_grants s (gives_grants s w).host ≡ []
+  pub grants_rest : (w : Work) → due_grants s (gives_grants s w).host ≡ []
   grants_rest w =
       let cs = chosen message_of s.overcommit (arrivals w.host) in
       subst (λ (v : Work). due_grants s v.host ≡ []) (sym (grants_each s w)) (
