@@ -41,6 +41,13 @@ noted_true slot b e = by_flag b.changed where
   by_flag true = refl
   by_flag false = e
 
+-- nothing is noted of a slot without a message
+pub noted_none : (slot : ℕ) (b : Books) → is_some (entry.entry_of slot b.grants.entries) ≡ false → noted slot b ≡ b.changed
+noted_none slot b e = by_flag b.changed where
+  by_flag : (c : Bool) → cond c true (is_some (entry.entry_of slot b.grants.entries)) ≡ c
+  by_flag true = refl
+  by_flag false = e
+
 -- where the book of grants stays, it is the slot's own message that is noted
 pub noted_same : (slot : ℕ) (a : Option Arrival) (b : Books)
     → booked entry.entry_key (λ (e : entry.Entry). e.slot) slot (entries_in slot a) b.grants.entries ≡ b.grants.entries → changed_by slot a b ≡ noted slot b

@@ -122,8 +122,10 @@ impl Books {
                 self.changed = true;
             }
             None => {
-                self.note_arrival(slot);
-                self.grants.leave(slot);
+                if self.grants.holds(slot) {
+                    self.grants.leave(slot);
+                    self.changed = true;
+                }
             }
         }
     }
