@@ -11,7 +11,6 @@ mod carrying;
 mod flush_sink;
 mod lines;
 mod part;
-mod print;
 mod replay_world;
 mod replays;
 mod stop;

@@ -7,7 +7,6 @@ ghost use Rattle.homa_replay.specs.Lines.{tick_of};
 ghost use Rattle.homa_replay.specs.Playing.{Plays};
 ghost use Rattle.homa_replay.specs.Faults.{OnlyWrites};
 
-use crate::print::put_entries;
 use crate::{FlushSink, ReplayWorld, Stop};
 use homa_plain::{Event, HostId, WorldFault};
 use std::alloc::Global;
@@ -40,7 +39,7 @@ pub(crate) fn play<P: ReplayWorld, K: FlushSink>(
         }
         return Ok(Some(fault));
     }
-    put_entries(world, sink)?;
+    world.put_entries(sink)?;
     Ok(None)
 }
 

@@ -1,11 +1,16 @@
 // A world that is played.
 ghost use Rattle.std.specs.Prelude.{◌≡◌, ◌<◌, ◌≤◌, ◌+◌, ◌^◌, ℕ, List, [], Some, length, slice_get, IfErr, OnOk, OnErr};
+ghost use Rattle.std.specs.List.{flat_map};
+ghost use Rattle.homa_io.specs.Writing.{IsWritten};
 ghost use Rattle.homa_plain.specs.declared.settings.Settings.{Settings};
 ghost use Rattle.homa_plain.specs.Entries.{PlainEntry, plain};
 ghost use Rattle.homa_plain.specs.World.{World};
+ghost use Rattle.homa_plain.specs.Text.{line_text};
 ghost use Rattle.homa_plain.specs.Told.{HasLine};
 ghost use Rattle.homa_replay.specs.ReplayWorld.{IsApplied, IsNotApplied};
 
+use crate::FlushSink;
+use homa_io::WriteFailed;
 use homa_plain::{Entry, Event, WorldFault};
 use std::alloc::Global;
 
@@ -50,6 +55,10 @@ pub trait ReplayWorld {
         requires { i < length (told self.now) }
         ensures entry { slice_get (told self.now) i ≡ Some (plain result) }
         ensures line { HasLine (plain result) };
+
+    /// Prints the entries of the last event, each where it is made.
+    fn put_entries<K: FlushSink>(&self, sink: &mut K) -> Result<(), WriteFailed>
+        ensures { IsWritten K.taken K.faults K.is_same result sink.old sink.new (flat_map line_text (told self.now)) };
 
     /// No box has to allow nothing.
     ghost allows_none: { (w : Self) → allows w [] };

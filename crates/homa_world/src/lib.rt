@@ -11,6 +11,7 @@ mod entries;
 mod kinds;
 mod opening;
 mod parts;
+mod printed;
 mod rest;
 mod shown;
 mod world;

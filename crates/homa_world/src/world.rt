@@ -9,8 +9,9 @@ ghost use Rattle.homa_world.specs.Passing.{IsOf};
 use crate::parts::WorldParts;
 use crate::{LineKind, Passing};
 use homa_host::Host;
+use homa_io::WriteFailed;
 use homa_plain::{Entry, Event, HostId, LAST_TICK, Settings, WorldFault};
-use homa_replay::{OpenWorld, ReplayWorld};
+use homa_replay::{FlushSink, OpenWorld, ReplayWorld};
 use homa_service::Service;
 use host_view::Mark;
 use std::alloc::{AllocError, Global};
@@ -166,6 +167,10 @@ impl<S: Service> ReplayWorld for World<S> {
 
     fn entry(&self, i: usize) -> Entry<'_> {
         self.parts.entry(i)
+    }
+
+    fn put_entries<K: FlushSink>(&self, sink: &mut K) -> Result<(), WriteFailed> {
+        self.parts.put_entries(sink)
     }
 
     ghost allows_none = { λ w. tt };

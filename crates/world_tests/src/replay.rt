@@ -1,5 +1,5 @@
 // A replay over a world that can't be opened.
-use homa_io::{MemSink, MemSource};
+use homa_io::{MemSink, MemSource, WriteFailed};
 use homa_plain::{Entry, Event, Settings, WorldFault};
 use homa_replay::*;
 use std::alloc::{AllocError, Global};
@@ -39,6 +39,10 @@ impl ReplayWorld for Blank {
 
     fn entry(&self, _i: usize) -> Entry<'_> {
         Entry::Clock { tick: 0 }
+    }
+
+    fn put_entries<K: FlushSink>(&self, sink: &mut K) -> Result<(), WriteFailed> {
+        sink.put(&Entry::Clock { tick: 0 })
     }
 }
 
