@@ -117,6 +117,21 @@ impl Block {
         Ok(Block { recs, bytes })
     }
 
+    /// The packets of another block, in the room of this one, whose own packets are gone. More room is taken if they need it.
+    pub(crate) fn refilled(self, other: &Block) -> Result<Block, AllocError>
+        ensures { IfOk result (λ block. frames_of block ≡ frames_of other.now) }
+    {
+        let Block {
+            mut recs,
+            mut bytes,
+        } = self;
+        recs.clear();
+        bytes.clear();
+        recs.extend_from_slice(&other.recs)?;
+        bytes.extend_from_slice(&other.bytes)?;
+        Ok(Block { recs, bytes })
+    }
+
     /// Adds a packet, in room that was taken before.
     pub(crate) fn push(&mut self, from: HostId, to: HostId, bytes: &[u8])
         requires room { HasRoom self.old 1 }

@@ -40,6 +40,9 @@ pub enum Kept<'a> {
     },
 }
 
+// The most bytes of a tick whose room is kept for one of few bytes.
+const SMALL: usize = 1024;
+
 /// The most bytes of a block, beside those of a step.
 const MOST_SIZE: usize = 1 << 30;
 
@@ -56,11 +59,22 @@ fn empty_block(alloc: Global, spare: &mut Option<Block>, size: usize) -> Result<
     Ok(block)
 }
 
-// Takes out the packets of a tick: many with the room in which they stand, few in as much room as they need.
+// The same packets, in the room of a tick of few bytes that was given up, or else in as much as they need.
+fn copy_few(alloc: Global, front: &Block, small: &mut Option<Block>) -> Result<Block, AllocError>
+    ensures { IfOk result (λ block. frames_of block ≡ frames_of front.now) }
+{
+    match small.take() {
+        Some(block) => block.refilled(front),
+        None => front.copy(alloc),
+    }
+}
+
+// Takes out the packets of a tick: many with the room in which they stand, few as a copy.
 fn take_front(
     alloc: Global,
     front: &mut Block,
     spare: &mut Option<Block>,
+    small: &mut Option<Block>,
 ) -> Result<Block, AllocError>
     ensures taken { IfOk result (λ block. frames_of block ≡ frames_of front.old) }
     ensures none { OnOk result (frames_of front.new ≡ []) }
@@ -68,7 +82,7 @@ fn take_front(
     ensures same { OnErr result (front.new ≡ front.old) }
 {
     if !front.is_dense() {
-        let block = front.copy(alloc)?;
+        let block = copy_few(alloc, front, small)?;
         front.clear();
         return Ok(block);
     }
@@ -76,8 +90,8 @@ fn take_front(
     Ok(mem::replace(front, next))
 }
 
-// The first tick goes. Its room is kept if it is worth it.
-fn give_up(ticks: &mut VecDeque<Tick>, spare: &mut Option<Block>)
+// The first tick goes. Its room is kept if it is worth it, and also if it is small: then the next small one needs no new room.
+fn give_up(ticks: &mut VecDeque<Tick>, spare: &mut Option<Block>, small: &mut Option<Block>)
     ensures rest { ticks.new.items ≡ drop 1 ticks.old.items }
 {
     let Some(Tick { block, .. }) = ticks.pop_front() else {
@@ -85,6 +99,8 @@ fn give_up(ticks: &mut VecDeque<Tick>, spare: &mut Option<Block>)
     };
     if block.is_dense() {
         *spare = Some(block);
+    } else if block.size() <= SMALL {
+        *small = Some(block);
     }
 }
 
@@ -95,8 +111,9 @@ pub struct Packets {
     // The first packets, which are too old, and behind them those of earlier ticks.
     past: Past,
     ticks: VecDeque<Tick>,
-    // The room of a tick that was given up, for a tick to come.
+    // The room of a tick that was given up, for a tick to come, and that of a tick of few bytes.
     spare: Option<Block>,
+    small: Option<Block>,
     // The packets of the last tick, from number `first` on.
     front: Block,
     tick: u64,
@@ -127,6 +144,7 @@ impl Packets {
             past: Past::open(alloc, settings.wire),
             ticks: VecDeque::new(alloc),
             spare: None,
+            small: None,
             front: Block::open(alloc),
             tick: 0,
             first: 0,
@@ -156,7 +174,7 @@ impl Packets {
             return Ok(());
         }
         self.ticks.reserve(1)?;
-        let block = take_front(alloc, &mut self.front, &mut self.spare)?;
+        let block = take_front(alloc, &mut self.front, &mut self.spare, &mut self.small)?;
         self.ticks.push_back(Tick {
             tick: self.tick,
             first: self.first,
@@ -195,7 +213,7 @@ impl Packets {
             if !self.past.take(&self.settings, &self.ticks[0], now)? {
                 break;
             }
-            give_up(&mut self.ticks, &mut self.spare);
+            give_up(&mut self.ticks, &mut self.spare, &mut self.small);
         }
         Ok(())
     }
