@@ -21,7 +21,8 @@ over s id w = served s id (server_acked s (moment s id w) id (get w.host.servers
 -- of all these calls, these aren't over yet
 abbrev pub IsAcking : HostParts → List CallId → HostParts → List CallId → Type 0
 IsAcking old all new ids =
-    (w : Work) (frames : List SentFrame) → Amid w old frames → (v : Work) × Amid v new frames × (acked old.control.settings ids v ≡ acked old.control.settings all w)
+    (w : Work) (frames : List SentFrame) → Amid w old frames → (v : Work) × Amid v new frames
+    × (acked old.control.settings ids v ≡ acked old.control.settings all w)
 
 pub acking_on : (old mid new : HostParts) (all ids : List CallId) (id : CallId)
     → mid.control.settings ≡ old.control.settings → IsAcking old all mid (id ∷ ids)

@@ -99,7 +99,8 @@ at_server g c =
     let quiet = came.heard_count s c.args.from c.args.packet.now.sender c.args.packet.now.body (host_of o) c.args.now in
     let step : (w : Work) → Amid w mid c.server_gets.new.lent.out.now → Amid (acked s (acks p) w) q c.server_gets.new.lent.out.now = λ w amid.
     subst (λ (y : Settings × HostId). Amid (acked y.0 (acks (packet_between c.args.from y.1 c.args.packet.now c.args.payload.now)) w) q
-    c.server_gets.new.lent.out.now) (λ i. (e.steady.settings i, e.steady.id i)) (c.acknowledged.ensures.step c.args.payload.now w c.server_gets.new.lent.out.now amid) in
+    c.server_gets.new.lent.out.now) (λ i. (e.steady.settings i, e.steady.id i))
+    (c.acknowledged.ensures.step c.args.payload.now w c.server_gets.new.lent.out.now amid) in
     let others : AllByRecursion (λ (id : CallId). p.id ≡ id → ⊥) (acks p) → response_of (host_of q) p.id ≡ response_of (host_of mid) p.id =
     λ apart. c.acknowledged.ensures.others c.args.payload.now p.id
     (subst (λ (me : HostId). AllByRecursion (λ (id : CallId). p.id ≡ id → ⊥)
@@ -262,7 +263,8 @@ returns-in-Ok-clause-step g c a replies =
     let x = at_server g at.After-acknowledged in
     let is = came.client_comes o.control.settings (host_of o) c.args.now c.args.from o.control.id c.args.packet.now c.args.payload.now a
     (age g at.After-is_stale ∙ c.if-is_stale.false) c.in-Client.is in
-    subst (λ (w : Work). Amid w c.acknowledged.new.self c.server_gets.new.lent.out.now × AllByRecursion (IsWhole c.server_gets.new.lent.scratch.now) w.told) (sym is)
+    subst (λ (w : Work). Amid w c.acknowledged.new.self c.server_gets.new.lent.out.now
+    × AllByRecursion (IsWhole c.server_gets.new.lent.scratch.now) w.told) (sym is)
     (x.step a (c.in-Ok.ensures.step a (x.alike.back a replies)))
 
 pub returns-in-Ok-clause-steady : goal.returns-in-Ok-clause-steady
