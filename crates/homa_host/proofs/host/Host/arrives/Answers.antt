@@ -56,8 +56,7 @@ end_step-requires-clause-kept g c = c.arrives.ensures.kept
 pub end_step-requires-clause-amid : goal.end_step-requires-clause-amid
 end_step-requires-clause-amid g c =
     let o = c.self.inside.parts in
-    let given = c.in-Ok.ensures.served.answered in
-    (
+    let given = c.in-Ok.ensures.served.answered in (
       comes o.control.settings (arriving (seen_of o) c.args.from c.args.frame.now) given.0 (begun (host_of o) c.args.now),
       (c.in-Ok.ensures.step given.0 given.1).0,
     )

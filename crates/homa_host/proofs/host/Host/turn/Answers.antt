@@ -34,8 +34,7 @@ end_step-requires-clause-kept c = c.act_all.ensures.kept
 pub end_step-requires-clause-amid : goal.end_step-requires-clause-amid
 end_step-requires-clause-amid c =
     let o = c.self.inside.parts in
-    let later = subst (λ (h : Seen). h.host.last ≤ c.args.now) (sym c.self.view_is) c.requires.later in
-    (
+    let later = subst (λ (h : Seen). h.host.last ≤ c.args.now) (sym c.self.view_is) c.requires.later in (
       acts o.control.settings (begun (refilled o.control.settings (record (host_of o) { last = c.args.now })) c.args.now),
       turn_acted o c.self.invariant c.args.now c.requires.now later c.begin.new.self c.begin.ensures c.refill.new.self c.refill.ensures.refilled
           c.act_all.new.self c.clear.new.self c.act_all.new.out c.clear.ensures c.act_all.ensures.step,
