@@ -166,7 +166,7 @@ def asks_for_help():
 
 
 def raised_by_signal(fault):
-    """The exception of a signal, if `fault` is that or was raised while it went its way, as an import and any `finally` may do."""
+    """The exception of a signal, if `fault` is that, or was raised while it went its way, as an import may do."""
     while fault is not None and not isinstance(fault, (KeyboardInterrupt, Ended)):
         fault = fault.__context__
     return fault

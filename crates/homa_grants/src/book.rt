@@ -41,10 +41,20 @@ impl Model for GrantBook {
     ghost use Rattle.std.specs.Prelude.{length};
     ghost use Rattle.homa_grants.specs.Heaps.{messages, AreKept};
 
-    ghost view = { λ b. record { slots = length b.peer_of.items; hosts = length b.heaps.list; most = b.most; entries = messages b.heaps.list } };
+    ghost view = { λ b. record {
+      slots = length b.peer_of.items;
+      hosts = length b.heaps.list;
+      most = b.most;
+      entries = messages b.heaps.list;
+    } };
 
     ghost invariant = { λ b. AreKept b.heaps.list b.peers b.peer_of.items
-        (record { slots = length b.peer_of.items; hosts = length b.heaps.list; most = b.most; entries = messages b.heaps.list }) };
+        (record {
+          slots = length b.peer_of.items;
+          hosts = length b.heaps.list;
+          most = b.most;
+          entries = messages b.heaps.list;
+        }) };
 }
 
 impl GrantBook {

@@ -133,7 +133,8 @@ impl HostParts {
         requires room { length self.old.control.marks + 5 ≤ 128 }
         ensures kept { IsKept self.new }
         ensures step { (payload : List ℕ) (w : Work) (frames : List SentFrame) → Amid w self.old frames
-            → Amid (acked self.old.control.settings (acks (packet_between from self.old.control.id packet.now payload)) w) self.new frames }
+            → let p = packet_between from self.old.control.id packet.now payload in
+            Amid (acked self.old.control.settings (acks p) w) self.new frames }
         ensures others { (payload : List ℕ) (q : CallId) → AllByRecursion (λ id. q ≡ id → ⊥) (acks (packet_between from self.old.control.id packet.now payload))
             → response_of (host_of self.new) q ≡ response_of (host_of self.old) q }
         ensures steady { Steady 5 0 0 self.old [] self.new [] }

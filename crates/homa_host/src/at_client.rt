@@ -90,10 +90,15 @@ fn settle(
     requires opened { control.old.tuning.opened + 1 < 2 ^ 64 }
     requires room { length control.old.marks + 4 ≤ 128 }
     requires frames { length out.old + 3 ≤ 64 }
-    ensures step { (m : Moment) (p : PlainPacket) (row : Option ClientRow) (told : List ℕ) (w : Work) → head ≡ head_in p.body
+    ensures step { (m : Moment) (p : PlainPacket) (row : Option ClientRow) (told : List ℕ) (w : Work)
+        → head ≡ head_in p.body
         → IfTouched did (λ _. touched ≡ version_at (piece_in p.body p.payload) row) → IsAt w control.old out.old
         → IsAt (asked control.old.settings id from (answer_of m p row told did) w) control.new out.new }
-    ensures same { control.new ≡ record control.old { tuning = control.new.tuning; finished = control.new.finished; marks = control.new.marks } }
+    ensures same { control.new ≡ record control.old {
+      tuning = control.new.tuning;
+      finished = control.new.finished;
+      marks = control.new.marks;
+    } }
     ensures no_fewer { control.old.tuning.opened ≤ control.new.tuning.opened }
     ensures opened { control.new.tuning.opened ≤ control.old.tuning.opened + client_orders did }
     ensures marks { length control.new.marks ≤ length control.old.marks + 4 }

@@ -113,7 +113,8 @@ impl HostParts {
         requires order { self.old.order < 2 ^ 63 + 2 ^ 32 }
         requires room { length self.old.control.marks + 1 ≤ 128 }
         ensures kept { IsKept self.new }
-        ensures step { (w : Work) (frames : List SentFrame) → Amid w self.old frames → let s = self.old.control.settings in
+        ensures step { (w : Work) (frames : List SentFrame) → Amid w self.old frames
+            → let s = self.old.control.settings in
             Amid (served s id (server_acked s (moment s id w) id (get w.host.servers id)) w) self.new frames }
         ensures others { (q : CallId) → (q ≡ id → ⊥) → response_of (host_of self.new) q ≡ response_of (host_of self.old) q }
         ensures steady { Steady 1 0 0 self.old [] self.new [] }
@@ -202,8 +203,10 @@ fn acked_change(acked: Option<(u32, u64)>) -> Change
 // Tells of a call that an ACK buried up to a tick.
 fn tell_buried(control: &mut Control, id: CallId, acked: Option<(u32, u64)>)
     requires room { length control.old.marks + 1 ≤ 128 }
-    ensures step { (m : Moment) (row : Option ServerRow) (w : Work) (frames : List SentFrame) → IsAt w control.old frames
-        → IsAt (served control.old.settings id (acked_of m id row (option_map (λ x. x.1) acked)) w) control.new frames }
+    ensures step { (m : Moment) (row : Option ServerRow) (w : Work) (frames : List SentFrame)
+        → IsAt w control.old frames
+        → IsAt (served control.old.settings id (acked_of m id row (option_map (λ x. x.1) acked)) w)
+        control.new frames }
     ensures same { control.new ≡ record control.old { marks = control.new.marks } }
     ensures marks { length control.new.marks ≤ length control.old.marks + 1 }
     ensures sound { IsSound control.new }

@@ -11,13 +11,15 @@ use arrayvec::ArrayVec;
 use host_view::Outbox;
 
 impl HostParts {
-    // The chosen messages are granted to, unless nothing that arrives changed since they last were: no GRANT is due then.
+    // The chosen messages are granted to, unless nothing that arrives changed since they last were. No GRANT is due
+    // then.
     pub(crate) fn give_due_grants(&mut self, out: &mut Outbox)
         requires kept { IsKept self.old }
         requires amid { (w : Work) × Amid w self.old out.old }
         requires room { HasRoom 7 7 self.old out.old }
         ensures kept { IsKept self.new }
-        ensures step { (w : Work) → Amid w self.old out.old → Amid (gives_grants self.old.control.settings w) self.new out.new }
+        ensures step { (w : Work) → Amid w self.old out.old
+            → Amid (gives_grants self.old.control.settings w) self.new out.new }
         ensures steady { Steady 7 7 0 self.old out.old self.new out.new }
     {
         if !self.books.changed {

@@ -360,7 +360,8 @@ pub(crate) fn client_duties(clients: &ClientTable, place: u32) -> Duties
 /// The timer of the server's row at a place.
 pub(crate) fn server_timer(servers: &ServerTable, place: u32) -> Option<Deadline>
     requires stands { IsSome (spot_at servers.now.rows place) }
-    ensures { (id : CallId) (r : HeldServer) (pool : Pool) → StandsAt servers.now.rows id place r → AreIn pool (request_at servers.now.rows)
+    ensures { (id : CallId) (r : HeldServer) (pool : Pool) → StandsAt servers.now.rows id place r
+        → AreIn pool (request_at servers.now.rows)
         → result ≡ (server_duty servers.now.settings (seen_server pool r)).timer }
 {
     let facts = servers.row(place);
@@ -370,7 +371,8 @@ pub(crate) fn server_timer(servers: &ServerTable, place: u32) -> Option<Deadline
 /// What waits to be sent of the server's row at a place.
 pub(crate) fn server_waiting(servers: &ServerTable, place: u32) -> Option<Waiting>
     requires stands { IsSome (spot_at servers.now.rows place) }
-    ensures { (id : CallId) (r : HeldServer) (pool : Pool) → StandsAt servers.now.rows id place r → AreIn pool (request_at servers.now.rows)
+    ensures { (id : CallId) (r : HeldServer) (pool : Pool) → StandsAt servers.now.rows id place r
+        → AreIn pool (request_at servers.now.rows)
         → result ≡ (server_duty servers.now.settings (seen_server pool r)).waiting }
 {
     let facts = servers.row(place);
@@ -380,7 +382,8 @@ pub(crate) fn server_waiting(servers: &ServerTable, place: u32) -> Option<Waitin
 /// What the server's row at a place has in the books.
 pub(crate) fn server_duties(servers: &ServerTable, place: u32) -> Duties
     requires stands { IsSome (spot_at servers.now.rows place) }
-    ensures { (id : CallId) (r : HeldServer) (pool : Pool) → StandsAt servers.now.rows id place r → AreIn pool (request_at servers.now.rows)
+    ensures { (id : CallId) (r : HeldServer) (pool : Pool) → StandsAt servers.now.rows id place r
+        → AreIn pool (request_at servers.now.rows)
         → result ≡ server_duty servers.now.settings (seen_server pool r) }
 {
     let facts = servers.row(place);

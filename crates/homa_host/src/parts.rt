@@ -167,8 +167,8 @@ pub(crate) fn follow_client(books: &mut Books, clients: &ClientTable, change: Ch
     }
 }
 
-// The books follow a client's row in which nothing new arrives: what arrives stays as it is booked, and its granted end
-// may have changed.
+// The books follow a client's row in which nothing new arrives: what arrives stays as it is booked, and its granted
+// end may have changed.
 pub(crate) fn client_goes_on(books: &mut Books, clients: &ClientTable, place: u32)
     requires { CanFollowClient clients.now books.old (Stays place) }
     ensures { WentOnClient clients.now place books.old books.new }
@@ -196,8 +196,8 @@ pub(crate) fn follow_server(books: &mut Books, servers: &ServerTable, calls: u32
     }
 }
 
-// The books follow a server's row in which nothing new arrives: what arrives stays as it is booked, and its granted end
-// may have changed.
+// The books follow a server's row in which nothing new arrives: what arrives stays as it is booked, and its granted
+// end may have changed.
 pub(crate) fn server_goes_on(books: &mut Books, servers: &ServerTable, calls: u32, place: u32)
     requires { CanFollowServer servers.now calls books.old (Stays place) }
     ensures { WentOnServer servers.now calls place books.old books.new }

@@ -19,7 +19,8 @@ impl<S: Service> WorldParts<S> {
     /// Prints the entries of the last event.
     pub fn put_entries<K: FlushSink>(&self, sink: &mut K) -> Result<(), WriteFailed>
         requires kept { IsKept S.served self.now }
-        ensures { IsWritten K.taken K.faults K.is_same result sink.old sink.new (flat_map line_text (told_of self.now)) }
+        ensures { IsWritten K.taken K.faults K.is_same result sink.old sink.new
+            (flat_map line_text (told_of self.now)) }
     {
         match self.last {
             Last::Nothing => Ok(()),
@@ -40,7 +41,8 @@ impl<S: Service> WorldParts<S> {
         host: HostId,
         first: First,
     ) -> Result<(), WriteFailed>
-        ensures { IsWritten K.taken K.faults K.is_same result sink.old sink.new (flat_map line_text (first_told host first self.now.injected.items)) }
+        ensures { IsWritten K.taken K.faults K.is_same result sink.old sink.new
+            (flat_map line_text (first_told host first self.now.injected.items)) }
     {
         match first {
             First::Nothing => Ok(()),
@@ -62,7 +64,8 @@ impl<S: Service> WorldParts<S> {
         requires base { base + 64 < 2 ^ 64 }
         requires left { HasLeft self.now.stage (slice_get (hosts_of self.now.stage) host.0) }
         ensures { IsWritten K.taken K.faults K.is_same result sink.old sink.new
-            (flat_map line_text (map (numbered base) (entries_of self.now.stage (slice_get (hosts_of self.now.stage) host.0)))) }
+            (flat_map line_text (map (numbered base)
+            (entries_of self.now.stage (slice_get (hosts_of self.now.stage) host.0)))) }
     {
         let count = self.stage.entries(host);
         for i in 0..count {

@@ -103,7 +103,8 @@ impl Books {
         }
     }
 
-    /// Gives a slot this message that arrives, or none, and notes that what arrives may have changed. The other books stay.
+    /// Gives a slot this message that arrives, or none, and notes that what arrives may have changed. The other
+    /// books stay.
     pub fn follow_arrival(&mut self, slot: u32, arrival: Option<Arrival>)
         requires slot { slot < self.old.grants.slots }
         requires peer { IfSome arrival (λ a. a.peer.0 < self.old.grants.hosts) }

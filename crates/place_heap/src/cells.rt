@@ -41,8 +41,8 @@ pub struct Cell {
     pub at: u32,
 }
 
-/// Where the cells of a heap lie: the first is the cell `first` of a block, and each other lies `stride` cells behind the
-/// one before. A copy of it owns nothing.
+/// Where the cells of a heap lie: the first is the cell `first` of a block, and each other lies `stride` cells behind
+/// the one before. A copy of it owns nothing.
 #[derive(Clone, Copy)]
 pub(crate) struct Base {
     ptr: *mut Cell,
@@ -72,8 +72,8 @@ impl Model for Block {
     ghost also_shares = { λ b _ κ. block_lends b.base b.slots κ };
 }
 
-/// The owner of what is left of a block of `stride` heaps of `len` cells, from the heap `first` on, and of the right to free
-/// it. It takes no bytes.
+/// The owner of what is left of a block of `stride` heaps of `len` cells, from the heap `first` on, and of the right
+/// to free it. It takes no bytes.
 #[derive(Drop)]
 pub(crate) struct Pile {
     ghost base: { Base },
@@ -174,8 +174,9 @@ const WRITTEN: u8 = 255;
 // The mark of a cell that wasn't written, whose slot is absent.
 const ABSENT: u8 = 254;
 
-/// Cells of a heap, each with a value. They are seen as their list, and where they lie. A cell is written when it is first
-/// put, so that the system hands out no memory for it before; until then its mark alone says the place of its slot.
+/// Cells of a heap, each with a value. They are seen as their list, and where they lie. A cell is written when it is
+/// first put, so that the system hands out no memory for it before; until then its mark alone says the place of its
+/// slot.
 pub struct Cells {
     base: Base,
     cap: u32,
@@ -267,7 +268,8 @@ impl Cells {
         requires strips { (rest : List (List (Option Cell))) × (pile.old.strips ≡ blanks cap ∷ rest) }
         ensures cells { IfOk result (λ cells. cells.list ≡ replicate cap (unused_cell cap)) }
         ensures spot { IfOk result (λ cells. cells.spot ≡ record { base = pile.old.base; frees = false }) }
-        ensures pile { OnOk result ((pile.new ≡ record pile.old { base = after pile.old.base; strips = pile.new.strips }) ×
+        ensures pile { OnOk result (
+            (pile.new ≡ record pile.old { base = after pile.old.base; strips = pile.new.strips }) ×
             (pile.old.strips ≡ blanks cap ∷ pile.new.strips)) }
         ensures same { OnErr result (pile.new ≡ pile.old) }
     {

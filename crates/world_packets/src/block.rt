@@ -117,7 +117,8 @@ impl Block {
         Ok(Block { recs, bytes })
     }
 
-    /// The packets of another block, in the room of this one, whose own packets are gone. More room is taken if they need it.
+    /// The packets of another block, in the room of this one, whose own packets are gone. More room is taken if they
+    /// need it.
     pub(crate) fn refilled(self, other: &Block) -> Result<Block, AllocError>
         ensures { IfOk result (λ block. frames_of block ≡ frames_of other.now) }
     {

@@ -90,7 +90,8 @@ fn take_front(
     Ok(mem::replace(front, next))
 }
 
-// The first tick goes. Its room is kept if it is worth it, and also if it is small: then the next small one needs no new room.
+// The first tick goes. Its room is kept if it is worth it, and also if it is small: then the next small one needs no
+// new room.
 fn give_up(ticks: &mut VecDeque<Tick>, spare: &mut Option<Block>, small: &mut Option<Block>)
     ensures rest { ticks.new.items ≡ drop 1 ticks.old.items }
 {
@@ -286,7 +287,8 @@ impl Packets {
         &self.ticks[place - 1]
     }
 
-    /// What is kept of the packet with this number, if it is one of the last ones: those of the block in which the next are put.
+    /// What is kept of the packet with this number, if it is one of the last ones: those of the block in which the
+    /// next are put.
     pub fn recent(&self, n: u64) -> Option<Kept<'_>>
         ensures some { IfSome result (λ kept. slice_get (kept_all self.now) n ≡ Some (kept_seen kept)) }
         ensures none { IfNone result (open_number self.now ≤ n → length (kept_all self.now) ≤ n) }

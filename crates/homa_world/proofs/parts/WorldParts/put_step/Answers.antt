@@ -22,7 +22,8 @@ returns-in_err-put g c =
     let shown = map (numbered c.args.base) told in
     let e = numbered c.args.base (plain c.entry-entry.result) in
     let inside : c.loop-i.i < length shown = omega (arith, c.entries-count.ensures.told, c.loop-i-test.true, length-map told (numbered c.args.base)) in
-    let at = get_or_from_slice_get shown c.loop-i.i e e (map_at (numbered c.args.base) told c.loop-i.i (plain c.entry-entry.result) c.entry-entry.ensures.entry) in
+    let at = get_or_from_slice_get shown c.loop-i.i e e
+    (map_at (numbered c.args.base) told c.loop-i.i (plain c.entry-entry.result) c.entry-entry.ensures.entry) in
     handed_on _ c.from_residual.ensures.0
     (ends_on g.met.K.Sink.same_on c.loop-i.invariant.so_far c.in_err-put.ensures (λ line. line)
     (λ front. took_entry line_text shown c.loop-i.i e _ _ _ _ inside at (ap line_text c.number_on.ensures.entry) c.loop-i.invariant.so_far.ok front))
@@ -34,7 +35,8 @@ loop-i-preserved g c =
     let shown = map (numbered c.args.base) told in
     let e = numbered c.args.base (plain c.entry-entry.result) in
     let inside : c.loop-i.i < length shown = omega (arith, c.entries-count.ensures.told, c.loop-i-test.true, length-map told (numbered c.args.base)) in
-    let at = get_or_from_slice_get shown c.loop-i.i e e (map_at (numbered c.args.base) told c.loop-i.i (plain c.entry-entry.result) c.entry-entry.ensures.entry) in
+    let at = get_or_from_slice_get shown c.loop-i.i e e
+    (map_at (numbered c.args.base) told c.loop-i.i (plain c.entry-entry.result) c.entry-entry.ensures.entry) in
     record {
       so_far = went_on g.met.K.Sink.same_on c.loop-i.invariant.so_far c.in_ok-put.ensures
           (wrote_entry line_text shown c.loop-i.i e _ _ _ _ inside at (ap line_text c.number_on.ensures.entry) c.loop-i.invariant.so_far.ok
