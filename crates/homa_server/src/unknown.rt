@@ -1,5 +1,5 @@
-//! UNKNOWN: a RESEND comes of a call that has no record (reason 0), or DATA or a RESEND of one that has only a tombstone
-//! (reason 1). `homa_client/src/gets` says what UNKNOWN does at a client.
+//! UNKNOWN: a RESEND comes of a call that has no record (reason 0), or DATA or a RESEND of one that has only a
+//! tombstone (reason 1). `homa_client/src/gets` says what UNKNOWN does at a client.
 ghost use Rattle.std.specs.Prelude.{◌≡◌, ℕ, List, ◌||◌, false, Some, None};
 ghost use Rattle.homa_plain.specs.declared.id.CallId.{CallId};
 ghost use Rattle.homa_plain.specs.declared.settings.Settings.{Settings};
