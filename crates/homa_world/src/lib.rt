@@ -7,7 +7,7 @@
 #![tactic(auto)]
 
 mod arrivals;
-mod entries;
+mod counted;
 mod kinds;
 mod opening;
 mod parts;
