@@ -1,16 +1,17 @@
 // A world that is played.
-ghost use Rattle.std.specs.Prelude.{◌≡◌, ◌<◌, ◌≤◌, ◌+◌, ◌^◌, ℕ, List, [], IfErr, OnOk, OnErr};
+ghost use Rattle.std.specs.Prelude.{◌≡◌, ◌<◌, ◌≤◌, ◌+◌, ◌^◌, ℕ, List, [], Some, length, slice_get, IfErr, OnOk, OnErr};
 ghost use Rattle.std.specs.List.{flat_map};
 ghost use Rattle.homa_io.specs.Writing.{IsWritten};
 ghost use Rattle.homa_plain.specs.declared.settings.Settings.{Settings};
-ghost use Rattle.homa_plain.specs.Entries.{PlainEntry};
+ghost use Rattle.homa_plain.specs.Entries.{PlainEntry, plain};
 ghost use Rattle.homa_plain.specs.World.{World};
 ghost use Rattle.homa_plain.specs.Text.{line_text};
+ghost use Rattle.homa_plain.specs.Told.{HasLine};
 ghost use Rattle.homa_replay.specs.ReplayWorld.{IsApplied, IsNotApplied};
 
 use crate::FlushSink;
 use homa_io::WriteFailed;
-use homa_plain::{Event, WorldFault};
+use homa_plain::{Entry, Event, WorldFault};
 use std::alloc::Global;
 
 /// A world that is played event by event, and tells the entries of the last one.
@@ -44,6 +45,16 @@ pub trait ReplayWorld {
         ensures allows { OnErr result ((told : List PlainEntry) → allows self.new told → allows self.old told) }
         ensures settings { settings self.new ≡ settings self.old }
         ensures counted { events self.new ≤ events self.old + 1 };
+
+    /// How many entries the last event has.
+    fn entries(&self) -> usize
+        ensures { result ≡ length (told self.now) };
+
+    /// One of them.
+    fn entry(&self, i: usize) -> Entry<'_>
+        requires { i < length (told self.now) }
+        ensures entry { slice_get (told self.now) i ≡ Some (plain result) }
+        ensures line { HasLine (plain result) };
 
     /// Prints the entries of the last event, each where it is made.
     fn put_entries<K: FlushSink>(&self, sink: &mut K) -> Result<(), WriteFailed>

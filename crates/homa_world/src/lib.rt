@@ -7,7 +7,7 @@
 #![tactic(auto)]
 
 mod arrivals;
-mod counted;
+mod entries;
 mod kinds;
 mod opening;
 mod parts;

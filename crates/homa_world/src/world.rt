@@ -10,7 +10,7 @@ use crate::parts::WorldParts;
 use crate::{LineKind, Passing};
 use homa_host::Host;
 use homa_io::WriteFailed;
-use homa_plain::{Event, HostId, LAST_TICK, Settings, WorldFault};
+use homa_plain::{Entry, Event, HostId, LAST_TICK, Settings, WorldFault};
 use homa_replay::{FlushSink, OpenWorld, ReplayWorld};
 use homa_service::Service;
 use host_view::Mark;
@@ -159,6 +159,14 @@ impl<S: Service> ReplayWorld for World<S> {
             Event::Inject { host } => self.parts.inject(alloc, host, bytes),
             Event::Shift { host, n } => self.parts.shift(host, n),
         }
+    }
+
+    fn entries(&self) -> usize {
+        self.parts.entries()
+    }
+
+    fn entry(&self, i: usize) -> Entry<'_> {
+        self.parts.entry(i)
     }
 
     fn put_entries<K: FlushSink>(&self, sink: &mut K) -> Result<(), WriteFailed> {

@@ -33,6 +33,14 @@ impl ReplayWorld for Blank {
         Ok(())
     }
 
+    fn entries(&self) -> usize {
+        1
+    }
+
+    fn entry(&self, _i: usize) -> Entry<'_> {
+        Entry::Clock { tick: 0 }
+    }
+
     fn put_entries<K: FlushSink>(&self, sink: &mut K) -> Result<(), WriteFailed> {
         sink.put(&Entry::Clock { tick: 0 })
     }
